@@ -1,0 +1,5 @@
+-- The definitions that the contracts of `block` cite.
+pub mod Lists
+pub mod Field
+pub mod Check
+pub mod Buffer

@@ -1,0 +1,172 @@
+// Blocks of 512 bytes: fields, the two sums, check and seal. Every function is total: a byte past the end reads as 0 and is not written, and a block that is
+// not whole is not sealed.
+ghost use mathlib.Core.Path.{_≡_};
+ghost use Prim.Native.Nat.{ℕ, _<_};
+ghost use lib.ListN.{getD, set, take};
+ghost use Rattle.block.specs.Field.{twoAt, fourAt, withTwo, withFour};
+ghost use Rattle.block.specs.Check.{sums, sealed, sealOf, isZero};
+ghost use Rattle.block.specs.Buffer.{blockAt, sealAt};
+
+// The byte at k.
+pub fn byte(s: &[u8], k: usize) -> u8
+    ensures { λ r. ⌜ r ≡ getD (now (s .entry)) k 0 ⌝ }
+{
+    if k < s.len() { s[k] } else { 0 }
+}
+
+fn wide16(x: u8) -> u16
+    ensures { λ r. ⌜ (r ≡ x) × (r < 256) ⌝ }
+{
+    x as u16
+}
+
+fn wide32(x: u8) -> u32
+    ensures { λ r. ⌜ (r ≡ x) × (r < 256) ⌝ }
+{
+    x as u32
+}
+
+// The two-byte field at k.
+pub fn get16(s: &[u8], k: usize) -> u16
+    ensures { λ r. ⌜ r ≡ twoAt (now (s .entry)) k ⌝ }
+{
+    if k < s.len() {
+        wide16(s[k]) + 256 * wide16(byte(s, k + 1))
+    } else {
+        0
+    }
+}
+
+// The four-byte field at k.
+pub fn get32(s: &[u8], k: usize) -> u32
+    ensures { λ r. ⌜ r ≡ fourAt (now (s .entry)) k ⌝ }
+{
+    if k < s.len() {
+        wide32(s[k])
+            + 256 * (wide32(byte(s, k + 1)) + 256 * (wide32(byte(s, k + 2)) + 256 * wide32(byte(s, k + 3))))
+    } else {
+        0
+    }
+}
+
+// Writes the byte at k.
+pub fn put(s: &mut [u8], k: usize, v: u8)
+    ensures { λ _. ⌜ now (s .exit) ≡ set (now (s .entry)) k v ⌝ }
+{
+    if k < s.len() {
+        s[k] = v;
+    }
+}
+
+// Writes the two-byte field at k.
+pub fn put16(s: &mut [u8], k: usize, v: u16)
+    ensures { λ _. ⌜ now (s .exit) ≡ withTwo (now (s .entry)) k v ⌝ }
+{
+    if k < s.len() {
+        put(s, k, (v % 256) as u8);
+        put(s, k + 1, (v / 256) as u8);
+    }
+}
+
+// Writes the four-byte field at k.
+pub fn put32(s: &mut [u8], k: usize, v: u32)
+    ensures { λ _. ⌜ now (s .exit) ≡ withFour (now (s .entry)) k v ⌝ }
+{
+    if k < s.len() {
+        put(s, k, (v % 256) as u8);
+        put(s, k + 1, (v / 256 % 256) as u8);
+        put(s, k + 2, (v / 256 / 256 % 256) as u8);
+        put(s, k + 3, (v / 256 / 256 / 256) as u8);
+    }
+}
+
+pub struct Sums {
+    pub a: u32,
+    pub b: u32,
+}
+
+// The two sums over bytes 0 to 507, or over all where there are fewer. They are reduced once, at the end: 508 bytes cannot overflow 32 bits.
+pub fn sums_of(s: &[u8]) -> Sums
+    ensures { λ r. ⌜ sums 0 0 (take 508 (now (s .entry))) ≡ (r .a, r .b) ⌝ }
+{
+    let mut end = s.len();
+    if 508 < end {
+        end = 508;
+    }
+    let mut a: u32 = 0;
+    let mut b: u32 = 0;
+    let mut i: usize = 0;
+    while i < end {
+        a += wide32(s[i]);
+        b += a;
+        i += 1;
+    }
+    Sums {
+        a: a % 65521,
+        b: b % 65521,
+    }
+}
+
+// Whether these are 512 bytes and their check is right.
+pub fn check(s: &[u8]) -> bool
+    ensures { λ r. ⌜ r ≡ sealed (now (s .entry)) ⌝ }
+{
+    if s.len() != 512 {
+        return false;
+    }
+    let t = sums_of(s);
+    if get16(s, 508) as u32 != t.a {
+        return false;
+    }
+    get16(s, 510) as u32 == t.b
+}
+
+// Writes the check of a block of 512 bytes.
+pub fn seal(s: &mut [u8])
+    ensures { λ _. ⌜ now (s .exit) ≡ sealOf (now (s .entry)) ⌝ }
+{
+    if s.len() != 512 {
+        return;
+    }
+    let t = sums_of(s);
+    put16(s, 508, t.a as u16);
+    put16(s, 510, t.b as u16);
+}
+
+// Whether every byte is zero.
+pub fn is_zero(s: &[u8]) -> bool
+    ensures { λ r. ⌜ r ≡ isZero (now (s .entry)) ⌝ }
+{
+    let mut i: usize = 0;
+    while i < s.len() {
+        if s[i] != 0 {
+            return false;
+        }
+        i += 1;
+    }
+    true
+}
+
+// Whether the buffer has a block j and its check is right.
+pub fn check_at(s: &[u8], j: usize) -> bool
+    ensures { λ r. ⌜ r ≡ sealed (blockAt (now (s .entry)) j) ⌝ }
+{
+    if s.len() / 512 <= j {
+        return false;
+    }
+    let at = 512 * j;
+    let end = at + 512;
+    check(&s[at..end])
+}
+
+// Writes the check of block j, where the buffer has one.
+pub fn seal_at(s: &mut [u8], j: usize)
+    ensures { λ _. ⌜ now (s .exit) ≡ sealAt (now (s .entry)) j ⌝ }
+{
+    if s.len() / 512 <= j {
+        return;
+    }
+    let at = 512 * j;
+    let end = at + 512;
+    seal(&mut s[at..end]);
+}
