@@ -129,3 +129,26 @@ one-failed p a n i h g e = go (allFrom p a n) refl
     go : (b : Bool) → allFrom p a n ≡ b → allFrom p a n ≡ false
     go true q = absurd (subst T e (allFrom-so p a n (subst T (sym q) tt) i h g))
     go false q = q
+
+pub says-alike : {a b : Bool} {P Q : Type 0} → Says a P → Says b Q → (P → Q) → (Q → P) → a ≡ b
+says-alike {a} {b} s r f g = go a b (λ t. r .so-true (f (s .true-so t))) (λ t. s .so-true (g (r .true-so t)))
+  where
+    go : (x y : Bool) → (T x → T y) → (T y → T x) → x ≡ y
+    go true true f g = refl
+    go true false f g = absurd (f tt)
+    go false true f g = absurd (g tt)
+    go false false f g = refl
+
+pub says-true : {b : Bool} {P : Type 0} → Says b P → P → b ≡ true
+says-true {b} s p = go b (s .so-true p)
+  where
+    go : (x : Bool) → T x → x ≡ true
+    go true t = refl
+    go false t = absurd t
+
+pub says-false : {b : Bool} {P : Type 0} → Says b P → (P → ⊥) → b ≡ false
+says-false {b} s n = go b (λ t. n (s .true-so t))
+  where
+    go : (x : Bool) → (T x → ⊥) → x ≡ false
+    go true f = absurd (f tt)
+    go false f = refl

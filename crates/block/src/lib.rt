@@ -43,7 +43,9 @@ pub fn get32(s: &[u8], k: usize) -> u32
 {
     if k < s.len() {
         wide32(s[k])
-            + 256 * (wide32(byte(s, k + 1)) + 256 * (wide32(byte(s, k + 2)) + 256 * wide32(byte(s, k + 3))))
+            + 256
+                * (wide32(byte(s, k + 1))
+                    + 256 * (wide32(byte(s, k + 2)) + 256 * wide32(byte(s, k + 3))))
     } else {
         0
     }

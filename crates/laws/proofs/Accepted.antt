@@ -1,0 +1,180 @@
+-- Buffers that no line from 1 to 6 refuses: they are a side of the machine, and every call leaves them so, the copies of the other seats too.
+-- Assumes nothing.
+use Prim.Native.Nat.{_%_, _*_, _+_, _≤_, suc, zero, ℕ}
+use mathlib.Core.Bool.{Bool, _&&_, _||_, false, not, true}
+use mathlib.Core.List.{List, [], _∷_, map}
+use mathlib.Core.Option.{Option, none, some}
+use mathlib.Core.Path.{_∙_, _≡_, ap, refl, subst, sym}
+use native.Mathlib.Omega.{arith}
+use borrow.Author.Tests.{eqb-true, leb-true, ltb-false}
+use lib.Dec.{T, eqb, leb, ltb}
+use lib.ListN.{getD, length, length-append}
+use Rattle.block.specs.Lists.{All}
+use Rattle.model.specs.Blocks.{Block}
+use Rattle.model.specs.Calls.{call, copyConditions, sideIn, storeConditions}
+use Rattle.model.specs.Entry.{Entry, added, copied, deleted, empty, normal}
+use Rattle.model.specs.Fitting.{fitsEntry, fitsStore, has}
+use Rattle.model.specs.History.{Bytes, History, last, present, sheet}
+use Rattle.model.specs.Invariant.{Base, FitsAt}
+use Rattle.model.specs.Machine.{Call, Side}
+use Rattle.model.specs.Refusals.{Clear, conditions, firstOf}
+use Rattle.model.specs.Rows.{some-row}
+use Rattle.model.specs.Run.{Typed, sideBy, sideStep}
+use Rattle.model.specs.Shows.{Accepted, Seen}
+use Rattle.model.specs.Store.{Holds, blanks, blockCount, checked, front, lawful, storeBlocks, storeHistory}
+use Rattle.model.specs.WorkCopy.{FitsCopyBlock, HoldsCopy, copyOk, entriesOf, entryBlock, seatOf}
+use Rattle.laws.proofs.Accepting.{accepted-sound}
+use Rattle.laws.proofs.All.{All-getD}
+use Rattle.laws.proofs.Conditions.{clear, none-holds}
+use Rattle.laws.proofs.Invariant.{KeptSide, fits-still, kept-doing}
+use Rattle.laws.proofs.Rows.{no-row, not-false, or-false}
+use Rattle.laws.proofs.Steps.{copy-clear, same-seat, side-one, store-clear}
+use Rattle.laws.proofs.Store.{accepted-holds}
+use Rattle.laws.proofs.WorkCopy.{copy-holds}
+use Rattle.laws.proofs.Writing.{front-blanks, holds-blocks}
+
+pub is-T : (b : Bool) → not b ≡ false → T b
+is-T true e = tt
+is-T false e = let z : _≡_ {A = ℕ} 0 1 = cc in absurd (omega arith)
+
+pub both : (a b : Bool) → (a && b) ≡ true → (a ≡ true) × (b ≡ true)
+both true b e = (refl, e)
+both false b e = (e, cc)
+
+-- ---- a copy that fits
+
+base-of : (h : History) (b i : ℕ) → 1 ≤ b → has h b i ≡ true → Base h b i
+base-of h b i lo e = let p = both (leb b (last h)) (present (sheet h b i)) e in record { low = lo; high = leb-true b (last h) (p .0); there = p .1 }
+
+fits-of : (h : History) (i : ℕ) (e : Entry) → fitsEntry h i e ≡ true → FitsCopyBlock (entryBlock e) → FitsAt h i e
+fits-of h i empty t f = tt
+fits-of h i (normal b x) t f = (base-of h b i (f .0 .0) t, record { size = f .1 .0; bytes = f .1 .1 })
+fits-of h i (added x) t f = record { size = f .0; bytes = f .1 }
+fits-of h i (deleted b) t f = base-of h b i (f .0) t
+fits-of h i (copied s r x) t f = (f .0, base-of h r s (f .1 .0) t, record { size = f .2 .0; bytes = f .2 .1 })
+
+piece-at : (es : List Entry) (i : ℕ) → getD (map entryBlock es) i (entryBlock empty) ≡ entryBlock (getD es i empty)
+piece-at [] i = refl
+piece-at (a ∷ es) zero = refl
+piece-at (a ∷ es) (suc i) = piece-at es i
+
+fits-each : (h : History) (es : List Entry) → fitsStore h es ≡ true → All FitsCopyBlock (map entryBlock es) → (i : ℕ) → FitsAt h i (getD es i empty)
+fits-each h es t a i =
+    let n : some-row (λ i e. not (fitsEntry h i e)) 0 es ≡ false = none-of (some-row (λ i e. not (fitsEntry h i e)) 0 es) t in
+    fits-of h i (getD es i empty) (not-false (fitsEntry h i (getD es i empty)) (no-row (λ i e. not (fitsEntry h i e)) empty (λ i. refl) es i n))
+    (subst FitsCopyBlock (piece-at es i) (All-getD FitsCopyBlock (map entryBlock es) i (entryBlock empty) a tt))
+  where
+    none-of : (b : Bool) → not b ≡ true → b ≡ false
+    none-of true e = sym e
+    none-of false e = refl
+
+module _ (store copy : Bytes) (A : Accepted store copy) where
+  abbrev d : Side
+  d = sideIn store copy
+
+  store-lines : Clear (storeConditions store)
+  store-lines = clear (storeConditions store) (A .storeTaken)
+
+  copy-lines : Clear (copyConditions store copy)
+  copy-lines = clear (copyConditions store copy) (A .copyTaken)
+
+  size : length store ≡ blockCount store * 512
+  size =
+      let p = or-false (not (eqb (length store % 512) 0)) (ltb (blockCount store) 2 || ltb 4_096 (blockCount store)) (store-lines .0) in
+      let e : length store % 512 ≡ 0 = eqb-true (length store % 512) 0 (not-false (eqb (length store % 512) 0) (p .0)) in
+      omega (arith, e)
+
+  holds : Holds (blockCount store) store (storeHistory store)
+  holds = accepted-holds (blockCount store) store size (is-T (checked (blockCount store) store) (store-lines .1 .0)) (is-T (lawful (blockCount store) store) (store-lines .1 .1 .0))
+
+  holds-mine : HoldsCopy copy (seatOf copy) (entriesOf copy)
+  holds-mine = copy-holds copy (eqb-true (length copy) 16_896 (not-false (eqb (length copy) 16_896) (copy-lines .0))) (is-T (copyOk copy) (copy-lines .1 .0))
+
+  seats : (1 ≤ seatOf copy) × (seatOf copy ≤ 4)
+  unfolding HoldsCopy
+  seats = holds-mine .1
+
+  pub accepted-seen : Seen (blockCount store) store copy d
+  accepted-seen =
+      let p = or-false (not (eqb (length store % 512) 0)) (ltb (blockCount store) 2 || ltb 4_096 (blockCount store)) (store-lines .0) in
+      let q = or-false (ltb (blockCount store) 2) (ltb 4_096 (blockCount store)) (p .1) in
+      record {
+        few = ltb-false (blockCount store) 2 (q .0);
+        many = ltb-false 4_096 (blockCount store) (q .1);
+        blocks = refl;
+        stored = record { holds = holds; uses = refl };
+        copied = holds-mine;
+      }
+
+  pub accepted-kept : KeptSide d
+  unfolding HoldsCopy
+  accepted-kept =
+      let B = holds-blocks (blockCount store) store (storeHistory store) holds in
+      let bs : List Block = storeBlocks store in
+      let r = accepted-sound bs (storeHistory store) (B .fit) (B .lays) in
+      let l : length (front bs) + length (blanks bs) ≡ length bs = sym (length-append (front bs) (blanks bs)) ∙ ap length (front-blanks bs) in
+      record {
+        sound = r .0;
+        fits = fits-each (storeHistory store) (entriesOf copy) (not-false (fitsStore (storeHistory store) (entriesOf copy)) (copy-lines .1 .1 .0)) (holds-mine .2);
+        wide = holds-mine .0;
+        used = sym (r .1);
+        room = omega (arith, l, B .count);
+      }
+
+  kept-by : (o : Option ℕ) (c : Call) → firstOf (conditions d c) ≡ o → Typed c → KeptSide (sideBy o d c .1)
+  kept-by (some n) c e ty = accepted-kept
+  kept-by none c e ty = kept-doing d c e (seats .0) (seats .1) ty accepted-kept
+
+  still-by : (o : Option ℕ) (c : Call) → sideBy o d c .1 .seat ≡ d .seat
+  still-by (some n) c = refl
+  still-by none c = same-seat d c .0
+
+  fits-by : (o : Option ℕ) (c : Call) → firstOf (conditions d c) ≡ o → (i : ℕ) (e : Entry) → FitsAt (d .history) i e → FitsAt (sideBy o d c .1 .history) i e
+  fits-by (some n) c q i e f = f
+  fits-by none c q i e f = fits-still d c q i e f
+
+  -- THE STATEMENT: on accepted buffers a call answers as the machine does on what they hold, and leaves what the machine leaves
+  pub accepted-call : (c : Call) → Typed c → (call store copy c .says ≡ sideStep d c .0) × Seen (blockCount store) (call store copy c .store) (call store copy c .copy) (sideStep d c .1)
+  accepted-call c ty = side-one (blockCount store) store copy d accepted-seen accepted-kept (seats .0) (seats .1) c ty
+
+  -- and they are accepted again
+  pub stays-accepted : (c : Call) → Typed c → Accepted (call store copy c .store) (call store copy c .copy)
+  stays-accepted c ty =
+      let o : Option ℕ = firstOf (conditions d c) in
+      let r = accepted-call c ty in
+      let k : KeptSide (sideBy o d c .1) = kept-by o c refl ty in
+      let s : sideBy o d c .1 .seat ≡ d .seat = still-by o c in
+      let lo : 1 ≤ sideBy o d c .1 .seat = omega (arith, s, seats .0) in
+      let hi : sideBy o d c .1 .seat ≤ 4 = omega (arith, s, seats .1) in
+      record {
+        storeTaken = none-holds (storeConditions (call store copy c .store)) (store-clear (blockCount store) (call store copy c .store) (call store copy c .copy) (sideBy o d c .1) (r .1) k lo hi);
+        copyTaken = none-holds (copyConditions (call store copy c .store) (call store copy c .copy)) (copy-clear (blockCount store) (call store copy c .store) (call store copy c .copy) (sideBy o d c .1) (r .1) k lo hi);
+      }
+
+-- and so are the copies of the other seats, with the store as the call left it
+pub others-accepted : (store copy other : Bytes) → Accepted store copy → Accepted store other → (c : Call) → Typed c → Accepted (call store copy c .store) other
+others-accepted store copy other A B c ty =
+    let d : Side = sideIn store copy in
+    let o : Option ℕ = firstOf (conditions d c) in
+    let r = accepted-call store copy A c ty in
+    let k : KeptSide (sideBy o d c .1) = kept-by store copy A o c refl ty in
+    let x : Side = record {
+      seat = seatOf other;
+      blocks = sideBy o d c .1 .blocks;
+      used = sideBy o d c .1 .used;
+      history = sideBy o d c .1 .history;
+      entries = entriesOf other;
+    } in
+    let V′ : Seen (blockCount store) (call store copy c .store) other x =
+    record { few = r .1 .few; many = r .1 .many; blocks = r .1 .blocks; stored = r .1 .stored; copied = holds-mine store other B } in
+    let K′ : KeptSide x = record {
+      sound = k .sound;
+      fits = λ i. fits-by store copy A o c refl i (getD (entriesOf other) i empty) (accepted-kept store other B .fits i);
+      wide = accepted-kept store other B .wide;
+      used = k .used;
+      room = k .room;
+    } in
+    record {
+      storeTaken = none-holds (storeConditions (call store copy c .store)) (store-clear (blockCount store) (call store copy c .store) other x V′ K′ (seats store other B .0) (seats store other B .1));
+      copyTaken = none-holds (copyConditions (call store copy c .store) other) (copy-clear (blockCount store) (call store copy c .store) other x V′ K′ (seats store other B .0) (seats store other B .1));
+    }

@@ -1,0 +1,149 @@
+-- Demand 1: on any bytes whatever a call answers a number if and only if its condition is the first that holds, and then every buffer stays; otherwise it is done as the
+-- machine does it.
+-- Assumes nothing.
+use Prim.Native.Nat.{ℕ}
+use mathlib.Core.List.{List, [], _++_, _∷_}
+use mathlib.Core.Logic.{_↔_}
+use mathlib.Core.Option.{Option, none, some}
+use mathlib.Core.Path.{_∙_, _≡_, ap, refl, subst, sym}
+use native.Mathlib.Omega.{arith}
+use lib.ListN.{replicate}
+use Rattle.model.specs.Calls.{Out, answerBy, blockPlace, bothConditions, call, changeBy, changeCall, conditionsIn, copyConditions, createBy, createCopy, createCopyConditions, createStore, freshCopy, freshStore, heard, logCall, out, ownPlace, placeBy, readCall, readPlace, refusalOf, showPlace, sideIn, sizeCondition, statusCall, storeConditions, storeOnlyConditions, storeRefusal, storeSide}
+use Rattle.model.specs.Demand1.{Demand1, DoneOn, Refuses}
+use Rattle.model.specs.Entry.{empty, ownBytes}
+use Rattle.model.specs.Fitting.{FitsEntry}
+use Rattle.model.specs.History.{Bytes, last}
+use Rattle.model.specs.Machine.{Add, Answer, Call, Commits, Copy, Delete, Edit, Log, Move, Read, Revert, Show, Side, Status, Update, doing, done, entry, refusal, refused}
+use Rattle.model.specs.Refusals.{Clear, Condition, First, conditions, firstOf}
+use Rattle.model.specs.Run.{Typed, sideBy, sideStep}
+use Rattle.model.specs.Shows.{Accepted, Seen}
+use Rattle.model.specs.Store.{blockCount, blockUsed, storeHistory}
+use Rattle.laws.proofs.Accepted.{accepted-call}
+use Rattle.laws.proofs.Conditions.{clear-split, first-iff, none-holds}
+use Rattle.laws.proofs.Demand2.{laid-copy}
+use Rattle.laws.proofs.Fresh.{fresh-copy}
+use Rattle.laws.proofs.Rows.{replicate-any}
+
+-- a call whose first line that holds has the number n
+pub refused-leaves : (store copy : Bytes) (c : Call) (n : ℕ) → firstOf (conditionsIn store copy c) ≡ some n → call store copy c ≡ out (refused n) store copy
+unfolding changeCall readPlace showPlace statusCall logCall refusalOf storeRefusal
+refused-leaves store copy (Add i x) n e = ap (λ (o : Option ℕ). changeBy o store copy (Add i x)) e
+refused-leaves store copy (Edit i x) n e = ap (λ (o : Option ℕ). changeBy o store copy (Edit i x)) e
+refused-leaves store copy (Delete i) n e = ap (λ (o : Option ℕ). changeBy o store copy (Delete i)) e
+refused-leaves store copy (Copy s t) n e = ap (λ (o : Option ℕ). changeBy o store copy (Copy s t)) e
+refused-leaves store copy (Move s t) n e = ap (λ (o : Option ℕ). changeBy o store copy (Move s t)) e
+refused-leaves store copy (Commits stamp mask) n e = ap (λ (o : Option ℕ). changeBy o store copy (Commits stamp mask)) e
+refused-leaves store copy (Update mask R) n e = ap (λ (o : Option ℕ). changeBy o store copy (Update mask R)) e
+refused-leaves store copy (Revert mask) n e = ap (λ (o : Option ℕ). changeBy o store copy (Revert mask)) e
+refused-leaves store copy (Read R i) n e =
+    ap (λ (o : Option ℕ). out (heard store [] (placeBy o (blockPlace store (blockUsed store R i)))) store copy) e
+refused-leaves store copy (Show i) n e =
+    ap (λ (o : Option ℕ). out (heard store copy (placeBy o (ownPlace (ownBytes (entry (sideIn store copy) i)) i (blockPlace store (blockUsed store (last (storeHistory store)) i))))) store copy) e
+refused-leaves store copy (Status i) n e = ap (λ (o : Option ℕ). out (answerBy o (doing (sideIn store copy) (Status i) .0)) store copy) e
+refused-leaves store copy (Log R i) n e = ap (λ (o : Option ℕ). out (answerBy o (doing (storeSide store) (Log R i) .0)) store copy) e
+
+own-heard : (store copy : Bytes) (o : Option Bytes) (i p : ℕ) → refusal (heard store copy (ownPlace o i (blockPlace store p))) ≡ none
+own-heard store copy none i p = refl
+own-heard store copy (some x) i p = refl
+
+-- a call of which no line holds
+pub unrefused-answers : (store copy : Bytes) (c : Call) → firstOf (conditionsIn store copy c) ≡ none → refusal (call store copy c .says) ≡ none
+unfolding changeCall readPlace showPlace statusCall logCall refusalOf storeRefusal
+unrefused-answers store copy (Add i x) e = ap (λ (o : Option ℕ). refusal (changeBy o store copy (Add i x) .says)) e
+unrefused-answers store copy (Edit i x) e = ap (λ (o : Option ℕ). refusal (changeBy o store copy (Edit i x) .says)) e
+unrefused-answers store copy (Delete i) e = ap (λ (o : Option ℕ). refusal (changeBy o store copy (Delete i) .says)) e
+unrefused-answers store copy (Copy s t) e = ap (λ (o : Option ℕ). refusal (changeBy o store copy (Copy s t) .says)) e
+unrefused-answers store copy (Move s t) e = ap (λ (o : Option ℕ). refusal (changeBy o store copy (Move s t) .says)) e
+unrefused-answers store copy (Commits stamp mask) e = ap (λ (o : Option ℕ). refusal (changeBy o store copy (Commits stamp mask) .says)) e
+unrefused-answers store copy (Update mask R) e = ap (λ (o : Option ℕ). refusal (changeBy o store copy (Update mask R) .says)) e
+unrefused-answers store copy (Revert mask) e = ap (λ (o : Option ℕ). refusal (changeBy o store copy (Revert mask) .says)) e
+unrefused-answers store copy (Read R i) e = ap (λ (o : Option ℕ). refusal (heard store [] (placeBy o (blockPlace store (blockUsed store R i))))) e
+unrefused-answers store copy (Show i) e =
+    ap (λ (o : Option ℕ). refusal (heard store copy (placeBy o (ownPlace (ownBytes (entry (sideIn store copy) i)) i (blockPlace store (blockUsed store (last (storeHistory store)) i)))))) e
+    ∙ own-heard store copy (ownBytes (entry (sideIn store copy) i)) i (blockUsed store (last (storeHistory store)) i)
+unrefused-answers store copy (Status i) e = ap (λ (o : Option ℕ). refusal (answerBy o (doing (sideIn store copy) (Status i) .0))) e
+unrefused-answers store copy (Log R i) e = ap (λ (o : Option ℕ). refusal (answerBy o (doing (storeSide store) (Log R i) .0))) e
+
+-- the number that a call answers is that of the first line that holds, and there is none where none holds
+pub numbered-call : (store copy : Bytes) (c : Call) → refusal (call store copy c .says) ≡ firstOf (conditionsIn store copy c)
+numbered-call store copy c = go (firstOf (conditionsIn store copy c)) refl
+  where
+    go : (o : Option ℕ) → firstOf (conditionsIn store copy c) ≡ o → refusal (call store copy c .says) ≡ firstOf (conditionsIn store copy c)
+    go (some n) e = ap (λ (x : Out). refusal (x .says)) (refused-leaves store copy c n e) ∙ sym e
+    go none e = unrefused-answers store copy c e ∙ sym e
+
+module _ (store copy : Bytes) where
+  -- a number comes if and only if its condition is the first that holds, and then every buffer is unchanged
+  refuses : (c : Call) → Refuses store copy c
+  refuses c = record { numbered = λ n. (λ e. first-iff (conditionsIn store copy c) n .0 (first n e), λ f. ap (λ (o : Out). o .says) (leaves n f)); stays = λ n e. refused-leaves store copy c n (first n e) }
+    where
+      first : (n : ℕ) → call store copy c .says ≡ refused n → firstOf (conditionsIn store copy c) ≡ some n
+      first n e = sym (numbered-call store copy c) ∙ ap refusal e
+
+      leaves : (n : ℕ) → First (conditionsIn store copy c) n → call store copy c ≡ out (refused n) store copy
+      leaves n f = refused-leaves store copy c n (first-iff (conditionsIn store copy c) n .1 f)
+
+  -- no condition holds of a call that takes both
+  does : (c : Call) → Typed c → Clear (bothConditions store copy c) → DoneOn store copy c (call store copy c)
+  does c ty h =
+      let p = clear-split (storeConditions store) (copyConditions store copy ++ conditions (sideIn store copy) c) h in
+      let q = clear-split (copyConditions store copy) (conditions (sideIn store copy) c) (p .1) in
+      let A : Accepted store copy = record { storeTaken = none-holds (storeConditions store) (p .0); copyTaken = none-holds (copyConditions store copy) (q .0) } in
+      let r = accepted-call store copy A c ty in
+      let e : sideStep (sideIn store copy) c ≡ doing (sideIn store copy) c = ap (λ (o : Option ℕ). sideBy o (sideIn store copy) c) (none-holds (conditions (sideIn store copy) c) (q .1)) in
+      record { says = r .0 ∙ ap (λ (x : Answer × Side). x .0) e; holds = subst (λ (x : Answer × Side). Seen (blockCount store) (call store copy c .store) (call store copy c .copy) (x .1)) e (r .1) }
+
+  -- a store that is accepted, is so with a fresh copy
+  fresh-accepted : Clear (storeConditions store) → Accepted store (freshCopy 1)
+  fresh-accepted h = record {
+    storeTaken = none-holds (storeConditions store) h;
+    copyTaken = laid-copy store (freshCopy 1) 1 (replicate 32 empty) (fresh-copy 1 (omega arith) (omega arith), λ i. replicate-any (FitsEntry (storeHistory store) i) 32 i empty empty tt tt) .0;
+  }
+
+  reads : (R i : ℕ) → Clear (storeOnlyConditions store (Read R i)) → readCall store R i ≡ doing (storeSide store) (Read R i) .0
+  reads R i h =
+      let p = clear-split (storeConditions store) (conditions (storeSide store) (Read R i)) h in
+      let d : Side = sideIn store (freshCopy 1) in
+      accepted-call store (freshCopy 1) (fresh-accepted (p .0)) (Read R i) tt .0
+      ∙ ap (λ (o : Option ℕ). sideBy o d (Read R i) .0) (none-holds (conditions d (Read R i)) (p .1))
+
+  logs : (R i : ℕ) → Clear (storeOnlyConditions store (Log R i)) → logCall store R i ≡ doing (storeSide store) (Log R i) .0
+  logs R i h =
+      let p = clear-split (storeConditions store) (conditions (storeSide store) (Log R i)) h in
+      let d : Side = sideIn store (freshCopy 1) in
+      accepted-call store (freshCopy 1) (fresh-accepted (p .0)) (Log R i) tt .0
+      ∙ ap (λ (o : Option ℕ). sideBy o d (Log R i) .0) (none-holds (conditions d (Log R i)) (p .1))
+
+-- create
+module _ (old new : Bytes) where
+  create-numbered : (o : Option ℕ) (n : ℕ) → (createBy o old new .says ≡ refused n) ↔ (o ≡ some n)
+  create-numbered none n = (λ e. let z : _≡_ {A = ℕ} 0 1 = cc in absurd (omega arith), λ e. let z : _≡_ {A = ℕ} 0 1 = cc in absurd (omega arith))
+  create-numbered (some m) n = (λ e. cc, λ e. cc)
+
+  create-first : (cs : List Condition) (n : ℕ) → (createBy (firstOf cs) old new .says ≡ refused n) ↔ First cs n
+  create-first cs n = (
+    λ e. first-iff cs n .0 (create-numbered (firstOf cs) n .0 e),
+    λ f. create-numbered (firstOf cs) n .1 (first-iff cs n .1 f),
+  )
+
+  create-stays : (o : Option ℕ) (n : ℕ) → createBy o old new .says ≡ refused n → createBy o old new .buffer ≡ old
+  create-stays o n e = ap (λ (x : Option ℕ). createBy x old new .buffer) (create-numbered o n .0 e)
+
+  create-made : (cs : List Condition) → Clear cs → createBy (firstOf cs) old new ≡ record { says = done; buffer = new }
+  create-made cs h = ap (λ (o : Option ℕ). createBy o old new) (none-holds cs h)
+
+-- THE STATEMENT
+pub demand-one : (store copy : Bytes) → Demand1 store copy
+unfolding createStore createCopy
+demand-one store copy = record {
+  refuses = refuses store copy;
+  does = does store copy;
+  reads = λ R i h. ap (λ (a : Answer). out a store copy) (reads store copy R i h);
+  logs = λ R i h. ap (λ (a : Answer). out a store copy) (logs store copy R i h);
+  store-numbered = create-first store (freshStore (blockCount store)) (sizeCondition store ∷ []);
+  store-stays = create-stays store (freshStore (blockCount store)) (firstOf (sizeCondition store ∷ []));
+  store-made = create-made store (freshStore (blockCount store)) (sizeCondition store ∷ []);
+  copy-numbered = λ k. create-first copy (freshCopy k) (createCopyConditions copy k);
+  copy-stays = λ k. create-stays copy (freshCopy k) (firstOf (createCopyConditions copy k));
+  copy-made = λ k. create-made copy (freshCopy k) (createCopyConditions copy k);
+}

@@ -1,0 +1,347 @@
+-- One call: on buffers that show a state it answers as the machine does, and leaves buffers that show the machine's next state.
+-- Assumes nothing.
+use Prim.Native.Nat.{_%_, _*_, _+_, _-_, _<_, _≤_, suc, ℕ}
+use mathlib.Core.Bool.{Bool, _||_, false, not, true}
+use mathlib.Core.List.{List, [], _++_, _∷_, map}
+use mathlib.Core.Logic.{inl, inr}
+use mathlib.Core.Option.{Option, none, some}
+use mathlib.Core.Path.{_∙_, _≡_, ap, ap₂, refl, subst, sym}
+use native.Mathlib.Nat.{zero-add}
+use native.Mathlib.Omega.{arith}
+use borrow.Author.Tests.{eq-eqb, le-leb, le-ltb, ltb-false}
+use lib.Dec.{eqb, ltb}
+use lib.ListN.{getD, length, length-set, set}
+use lib.Seq.{getD-set-other, getD-set-same, set-getD}
+use Rattle.block.proofs.Says.{eq-or, is-true}
+use Rattle.block.specs.Lists.{All}
+use Rattle.model.specs.Blocks.{fieldsOf}
+use Rattle.model.specs.Calls.{Buffers, Out, afterTurn, answerBy, blockPlace, call, changeBy, changeCall, copyConditions, heard, logCall, out, ownPlace, placeBy, readCall, readPlace, refusalOf, showCall, showPlace, sideIn, statusCall, storeConditions, storeRefusal, storeSide, storeWith, turnOn}
+use Rattle.model.specs.Codec.{joined}
+use Rattle.model.specs.Entry.{Entry, added, copied, deleted, empty, normal, ownBytes}
+use Rattle.model.specs.Fitting.{fitsEntry, fitsStore, has}
+use Rattle.model.specs.History.{Bytes, Commit, History, last, newest, present, sheet}
+use Rattle.model.specs.Invariant.{Base, FitsAt, Kept}
+use Rattle.model.specs.Machine.{Add, Answer, Call, Commits, Copy, Delete, Edit, Log, Move, Read, Revert, Show, Side, State, Status, Update, asBytes, blocksFor, doing, entry, newCommit, put, shown, sideOf}
+use Rattle.model.specs.Refusals.{Clear, _when_, conditions, firstOf, noSheet, tooLate}
+use Rattle.model.specs.Rows.{some-row}
+use Rattle.model.specs.Run.{Turn, Typed, Valid, asked, sideBy, sideStep, step, stepBy}
+use Rattle.model.specs.Shows.{Seen, Shows, Stored}
+use Rattle.model.specs.Store.{blockCount, blockUsed, blocksOf, checked, front, historyOf, lawful, storeHistory, usedOf}
+use Rattle.model.specs.WorkCopy.{FitsCopyBlock, HoldsCopy, copyBytes, copyOk, entriesOf, entryBlock}
+use Rattle.model.specs.Writing.{withCommit}
+use Rattle.laws.proofs.Conditions.{clear, clear-first}
+use Rattle.laws.proofs.Invariant.{KeptSide, committable, kept-doing, kept-side, made-commit}
+use Rattle.laws.proofs.Places.{heard-block, heard-own}
+use Rattle.laws.proofs.Rows.{or-false}
+use Rattle.laws.proofs.Store.{holds-accepted}
+use Rattle.laws.proofs.Trees.{used-low}
+use Rattle.laws.proofs.WorkCopy.{copy-bytes, holds-copy, length-joined}
+use Rattle.laws.proofs.Writing.{holds-blocks, stored-commit}
+
+-- ---- what fits passes the test, and has a layout
+
+has-base : (h : History) (b i : ℕ) → Base h b i → has h b i ≡ true
+has-base h b i B = rw (le-leb b (last h) (B .high), B .there)
+
+fits-test : (h : History) (i : ℕ) (e : Entry) → FitsAt h i e → fitsEntry h i e ≡ true
+fits-test h i empty f = refl
+fits-test h i (normal b x) f = has-base h b i (f .0)
+fits-test h i (added x) f = refl
+fits-test h i (deleted b) f = has-base h b i f
+fits-test h i (copied s r x) f = has-base h r s (f .1)
+
+fits-rows : (h : History) (k : ℕ) (es : List Entry) → ((i : ℕ) → FitsAt h (k + i) (getD es i empty)) → some-row (λ i e. not (fitsEntry h i e)) k es ≡ false
+fits-rows h k [] f = refl
+fits-rows h k (e ∷ es) f =
+    let z : k + 0 ≡ k = omega arith in
+    let p : fitsEntry h k e ≡ true = fits-test h k e (rw z at (f 0)) in
+    let q : some-row (λ i e. not (fitsEntry h i e)) (suc k) es ≡ false = fits-rows h (suc k) es (λ i. let w : k + suc i ≡ suc k + i = omega arith in rw w at (f (suc i))) in
+    ap₂ (λ (a b : Bool). not a || b) p q
+
+fits-all : (h : History) (es : List Entry) → ((i : ℕ) → FitsAt h i (getD es i empty)) → fitsStore h es ≡ true
+fits-all h es f = ap not (fits-rows h 0 es (λ i. rw zero-add (f i)))
+
+fits-piece : (h : History) (i : ℕ) (e : Entry) → last h < 65_536 → FitsAt h i e → FitsCopyBlock (entryBlock e)
+fits-piece h i empty n f = tt
+fits-piece h i (normal b x) n f = ((f .0 .low, omega (arith, f .0 .high)), (f .1 .size, f .1 .bytes))
+fits-piece h i (added x) n f = (f .size, f .bytes)
+fits-piece h i (deleted b) n f = (f .low, omega (arith, f .high))
+fits-piece h i (copied s r x) n f = (f .0, (f .1 .low, omega (arith, f .1 .high)), (f .2 .size, f .2 .bytes))
+
+fits-pieces : (h : History) (k : ℕ) (es : List Entry) → last h < 65_536 → ((i : ℕ) → FitsAt h (k + i) (getD es i empty)) → All FitsCopyBlock (map entryBlock es)
+fits-pieces h k [] n f = tt
+fits-pieces h k (e ∷ es) n f = (
+  fits-piece h (k + 0) e n (f 0),
+  fits-pieces h (suc k) es n (λ i. let w : k + suc i ≡ suc k + i = omega arith in rw w at (f (suc i))),
+)
+
+-- the copy that a call leaves
+pub laid-copy : (d : Side) → KeptSide d → d .blocks ≤ 4_096 → 1 ≤ d .seat → d .seat ≤ 4 → HoldsCopy (copyBytes (d .seat) (d .entries)) (d .seat) (d .entries)
+laid-copy d K n lo hi =
+    copy-bytes (d .seat) (d .entries) (K .wide) lo hi
+    (fits-pieces (d .history) 0 (d .entries) (omega (arith, used-low (d .history), K .used, K .room)) (λ i. rw zero-add (K .fits i)))
+
+-- the store that a call leaves
+stored-doing : (N : ℕ) (store : Bytes) (d : Side) (c : Call) → N ≤ 4_096 → blockCount store ≡ N → d .blocks ≡ N → Stored N store (d .history) (d .used) → KeptSide d
+    → firstOf (conditions d c) ≡ none → 1 ≤ d .seat → d .seat ≤ 4 → Typed c
+    → Stored N (storeWith store (asked d c)) (doing d c .1 .history) (doing d c .1 .used)
+stored-doing N store d (Add i x) many n b S K e lo hi ty = S
+stored-doing N store d (Edit i x) many n b S K e lo hi ty = S
+stored-doing N store d (Delete i) many n b S K e lo hi ty = S
+stored-doing N store d (Copy i j) many n b S K e lo hi ty = S
+stored-doing N store d (Move i j) many n b S K e lo hi ty = S
+stored-doing N store d (Commits stamp mask) many n b S K e lo hi ty =
+    let C = committable d stamp mask e lo hi ty in
+    let c : Commit = newCommit d stamp mask in
+    subst (λ (m : ℕ). Stored N (joined fieldsOf (withCommit (blocksOf m store) c)) (d .history ++ (c ∷ [])) (d .used + blocksFor (d .history) (c .changes))) (sym n)
+    (stored-commit N store (d .history) (d .used) c many (omega (arith, used-low (d .history), K .used, K .room)) S (made-commit d stamp mask K C) (omega (arith, C .room)))
+stored-doing N store d (Update mask R) many n b S K e lo hi ty = S
+stored-doing N store d (Revert mask) many n b S K e lo hi ty = S
+stored-doing N store d (Read R i) many n b S K e lo hi ty = S
+stored-doing N store d (Show i) many n b S K e lo hi ty = S
+stored-doing N store d (Status i) many n b S K e lo hi ty = S
+stored-doing N store d (Log R i) many n b S K e lo hi ty = S
+
+pub same-seat : (d : Side) (c : Call) → (doing d c .1 .seat ≡ d .seat) × (doing d c .1 .blocks ≡ d .blocks)
+same-seat d (Add i x) = (refl, refl)
+same-seat d (Edit i x) = (refl, refl)
+same-seat d (Delete i) = (refl, refl)
+same-seat d (Copy i j) = (refl, refl)
+same-seat d (Move i j) = (refl, refl)
+same-seat d (Commits stamp mask) = (refl, refl)
+same-seat d (Update mask R) = (refl, refl)
+same-seat d (Revert mask) = (refl, refl)
+same-seat d (Read R i) = (refl, refl)
+same-seat d (Show i) = (refl, refl)
+same-seat d (Status i) = (refl, refl)
+same-seat d (Log R i) = (refl, refl)
+
+-- ---- one call on a store and a seat's working copy
+
+module _ (N : ℕ) (store copy : Bytes) (d : Side) (E : Seen N store copy d) (K : KeptSide d) (lo : 1 ≤ d .seat) (hi : d .seat ≤ 4) where
+  length-store : length store ≡ N * 512
+  length-store =
+      let B = holds-blocks N store (d .history) (E .stored .holds) in
+      ap length (sym (B .bytes)) ∙ length-joined fieldsOf (blocksOf N store) ∙ ap (λ (n : ℕ). n * 512) (B .count)
+
+  counted : blockCount store ≡ N
+  counted = omega (arith, length-store)
+
+  same-history : storeHistory store ≡ d .history
+  same-history = ap (λ (n : ℕ). historyOf n store) counted ∙ holds-accepted N store (d .history) (E .stored .holds) .2
+
+  -- the call finds the side in the buffers
+  same-side : sideIn store copy ≡ d
+  same-side =
+      let C = holds-copy copy (d .seat) (d .entries) (E .copied) in
+      let u : usedOf store ≡ d .used = ap (λ (n : ℕ). length (front (blocksOf n store))) counted ∙ E .stored .uses in
+      let n : blockCount store ≡ d .blocks = counted ∙ sym (E .blocks) in
+      λ i. record { seat = C .2 i; blocks = n i; used = u i; history = same-history i; entries = C .3 i }
+
+  -- no line from 1 to 6 holds
+  pub store-clear : Clear (storeConditions store)
+  store-clear =
+      let A = holds-accepted N store (d .history) (E .stored .holds) in
+      let m : length store % 512 ≡ 0 = omega (arith, length-store) in
+      let two : 2 ≤ blockCount store = omega (arith, counted, E .few) in
+      let top : blockCount store ≤ 4_096 = omega (arith, counted, E .many) in
+      let p : eqb (length store % 512) 0 ≡ true = eq-eqb (length store % 512) 0 m in
+      let q : ltb (blockCount store) 2 ≡ false = le-ltb (blockCount store) 2 two in
+      let r : ltb 4_096 (blockCount store) ≡ false = le-ltb 4_096 (blockCount store) top in
+      let c : checked (blockCount store) store ≡ true = ap (λ (n : ℕ). checked n store) counted ∙ is-true (checked N store) (A .0) in
+      let l : lawful (blockCount store) store ≡ true = ap (λ (n : ℕ). lawful n store) counted ∙ is-true (lawful N store) (A .1) in
+      (ap (λ (x : Bool). not x || (ltb (blockCount store) 2 || ltb 4_096 (blockCount store))) p ∙ ap₂ _||_ q r, (ap not c, (ap not l, tt)))
+
+  pub copy-clear : Clear (copyConditions store copy)
+  copy-clear =
+      let C = holds-copy copy (d .seat) (d .entries) (E .copied) in
+      let f : fitsStore (storeHistory store) (entriesOf copy) ≡ true =
+      ap₂ fitsStore same-history (C .3) ∙ fits-all (d .history) (d .entries) (K .fits) in
+      (ap not (eq-eqb (length copy) 16_896 (C .0)), (ap not (is-true (copyOk copy) (C .1)), (ap not f, tt)))
+
+  same-refusal : (c : Call) → refusalOf store copy c ≡ firstOf (conditions d c)
+  unfolding refusalOf
+  same-refusal c =
+      clear-first (storeConditions store) (copyConditions store copy ++ conditions (sideIn store copy) c) store-clear
+      ∙ clear-first (copyConditions store copy) (conditions (sideIn store copy) c) copy-clear
+      ∙ ap (λ (x : Side). firstOf (conditions x c)) same-side
+
+  read-refusal : (R i : ℕ) → storeRefusal store (Read R i) ≡ firstOf (conditions d (Read R i))
+  unfolding storeRefusal
+  read-refusal R i =
+      clear-first (storeConditions store) (conditions (storeSide store) (Read R i)) store-clear
+      ∙ ap (λ (h : History). firstOf (7 when (noSheet i || tooLate h R) ∷ 8 when not (present (sheet h R i)) ∷ [])) same-history
+
+  log-refusal : (R i : ℕ) → storeRefusal store (Log R i) ≡ firstOf (conditions d (Log R i))
+  unfolding storeRefusal
+  log-refusal R i =
+      clear-first (storeConditions store) (conditions (storeSide store) (Log R i)) store-clear
+      ∙ ap (λ (h : History). firstOf (7 when (noSheet i || (eqb R 0 || tooLate h R)) ∷ [])) same-history
+
+  -- what the buffers hold afterwards
+  abbrev Agrees : Out → Answer × Side → Type 0
+  Agrees o r = (o .says ≡ r .0) × Seen N (o .store) (o .copy) (r .1)
+
+  -- ---- a call that changes a buffer
+
+  change-by : (c : Call) (o : Option ℕ) → Typed c → firstOf (conditions d c) ≡ o → Agrees (changeBy o store copy c) (sideBy o d c)
+  change-by c (some n) ty e = (refl, E)
+  change-by c none ty e =
+      let d′ : Side = doing d c .1 in
+      let D : KeptSide d′ = kept-doing d c e lo hi ty K in
+      let m = same-seat d c in
+      let top : d′ .blocks ≤ 4_096 = omega (arith, m .1, E .blocks, E .many) in
+      let w : Agrees (out (doing d c .0) (storeWith store (asked d c)) (copyBytes (d′ .seat) (d′ .entries))) (doing d c) = (
+        refl,
+        record {
+          few = E .few;
+          many = E .many;
+          blocks = m .1 ∙ E .blocks;
+          stored = stored-doing N store d c (E .many) counted (E .blocks) (E .stored) K e lo hi ty;
+          copied = laid-copy d′ D top (omega (arith, m .0)) (omega (arith, m .0));
+        },
+      ) in
+      subst (λ (x : Side). Agrees (out (doing x c .0) (storeWith store (asked x c)) (copyBytes (doing x c .1 .seat) (doing x c .1 .entries))) (doing d c)) (sym same-side) w
+
+  change-one : (c : Call) → Typed c → Agrees (changeCall store copy c) (sideStep d c)
+  unfolding changeCall
+  change-one c ty =
+      subst (λ (o : Option ℕ). Agrees (changeBy o store copy c) (sideStep d c)) (sym (same-refusal c)) (change-by c (firstOf (conditions d c)) ty refl)
+
+  -- ---- a call that looks: it leaves the side
+
+  still-by : (o : Option ℕ) (c : Call) → doing d c .1 ≡ d → sideBy o d c .1 ≡ d
+  still-by (some n) c e = refl
+  still-by none c e = e
+
+  look-one : (a : Answer) (c : Call) → doing d c .1 ≡ d → a ≡ sideStep d c .0 → Agrees (out a store copy) (sideStep d c)
+  look-one a c e q = (q, subst (Seen N store copy) (sym (still-by (firstOf (conditions d c)) c e)) E)
+
+  heard-by : (copy′ : Bytes) (o : Option Bytes) (R i : ℕ) → R ≤ last (d .history) → sheet (d .history) R i ≡ o → not (present o) ≡ false
+      → heard store copy′ (blockPlace store (blockUsed store R i)) ≡ asBytes o
+  heard-by copy′ none R i le e q = let z : _≡_ {A = ℕ} 0 1 = cc in absurd (omega arith)
+  heard-by copy′ (some x) R i le e q = heard-block N store copy′ (d .history) R i x counted (E .stored .holds) le e
+
+  read-by : (o : Option ℕ) (R i : ℕ) → firstOf (conditions d (Read R i)) ≡ o
+      → heard store [] (placeBy o (blockPlace store (blockUsed store R i))) ≡ sideBy o d (Read R i) .0
+  read-by (some n) R i e = refl
+  read-by none R i e =
+      let l = clear (conditions d (Read R i)) e in
+      heard-by [] (sheet (d .history) R i) R i (ltb-false (last (d .history)) R (or-false (noSheet i) (tooLate (d .history) R) (l .0) .1)) refl (l .1 .0)
+
+  pub read-one : (R i : ℕ) → readCall store R i ≡ sideStep d (Read R i) .0
+  unfolding readPlace
+  read-one R i =
+      ap (λ (o : Option ℕ). heard store [] (placeBy o (blockPlace store (blockUsed store R i)))) (read-refusal R i)
+      ∙ read-by (firstOf (conditions d (Read R i))) R i refl
+
+  shown-by : (o : Option Bytes) (i : ℕ) → i ≤ 31 → ownBytes (entry d i) ≡ o → not (present (shown o (newest (d .history) i))) ≡ false
+      → heard store copy (ownPlace o i (blockPlace store (blockUsed store (last (d .history)) i))) ≡ asBytes (shown o (newest (d .history) i))
+  shown-by none i le e q = heard-by copy (newest (d .history) i) (last (d .history)) i (let z : last (d .history) ≤ last (d .history) = omega arith in z) refl q
+  shown-by (some x) i le e q = heard-own store copy (d .seat) (d .entries) i x (E .copied) le e
+
+  show-by : (o : Option ℕ) (i : ℕ) → firstOf (conditions d (Show i)) ≡ o
+      → heard store copy (placeBy o (ownPlace (ownBytes (entry d i)) i (blockPlace store (blockUsed store (last (d .history)) i)))) ≡ sideBy o d (Show i) .0
+  show-by (some n) i e = refl
+  show-by none i e =
+      let l = clear (conditions d (Show i)) e in
+      shown-by (ownBytes (entry d i)) i (ltb-false 31 i (l .0)) refl (l .1 .0)
+
+  show-one : (i : ℕ) → showCall store copy i ≡ sideStep d (Show i) .0
+  unfolding showPlace
+  show-one i =
+      ap (λ (o : Option ℕ). heard store copy (placeBy o (ownPlace (ownBytes (entry (sideIn store copy) i)) i (blockPlace store (blockUsed store (last (storeHistory store)) i))))) (same-refusal (Show i))
+      ∙ ap₂ (λ (x : Side) (h : History). heard store copy (placeBy (firstOf (conditions d (Show i))) (ownPlace (ownBytes (entry x i)) i (blockPlace store (blockUsed store (last h) i))))) same-side same-history
+      ∙ show-by (firstOf (conditions d (Show i))) i refl
+
+  answer-by : (o : Option ℕ) (c : Call) → answerBy o (doing d c .0) ≡ sideBy o d c .0
+  answer-by (some n) c = refl
+  answer-by none c = refl
+
+  status-one : (i : ℕ) → statusCall store copy i ≡ sideStep d (Status i) .0
+  unfolding statusCall
+  status-one i =
+      ap₂ (λ (o : Option ℕ) (x : Side). answerBy o (doing x (Status i) .0)) (same-refusal (Status i)) same-side
+      ∙ answer-by (firstOf (conditions d (Status i))) (Status i)
+
+  log-one : (R i : ℕ) → logCall store R i ≡ sideStep d (Log R i) .0
+  unfolding logCall
+  log-one R i =
+      ap₂ (λ (o : Option ℕ) (h : History). answerBy o (doing (record { seat = 0; blocks = blockCount store; used = usedOf store; history = h; entries = [] }) (Log R i) .0)) (log-refusal R i) same-history
+      ∙ answer-by (firstOf (conditions d (Log R i))) (Log R i)
+
+  -- THE STATEMENT for one seat: on buffers in which the side d is found, a call answers as the machine does, and leaves the machine's next side in them
+  pub side-one : (c : Call) → Typed c → Agrees (call store copy c) (sideStep d c)
+  side-one (Add i x) ty = change-one (Add i x) ty
+  side-one (Edit i x) ty = change-one (Edit i x) ty
+  side-one (Delete i) ty = change-one (Delete i) ty
+  side-one (Copy i j) ty = change-one (Copy i j) ty
+  side-one (Move i j) ty = change-one (Move i j) ty
+  side-one (Commits stamp mask) ty = change-one (Commits stamp mask) ty
+  side-one (Update mask R) ty = change-one (Update mask R) ty
+  side-one (Revert mask) ty = change-one (Revert mask) ty
+  side-one (Read R i) ty = look-one (readCall store R i) (Read R i) refl (read-one R i)
+  side-one (Show i) ty = look-one (showCall store copy i) (Show i) refl (show-one i)
+  side-one (Status i) ty = look-one (statusCall store copy i) (Status i) refl (status-one i)
+  side-one (Log R i) ty = look-one (logCall store R i) (Log R i) refl (log-one R i)
+
+-- ---- one call on buffers that show a state
+
+pub seen-seat : (N : ℕ) (b : Buffers) (s : State) (k : ℕ) → Shows N b s → 1 ≤ k → k ≤ 4 → Seen N (b .store) (getD (b .copies) (k - 1) []) (sideOf s k)
+seen-seat N b s k W lo hi = record {
+  few = W .few;
+  many = W .many;
+  blocks = W .blocks;
+  stored = W .store;
+  copied =
+      (let e : suc (k - 1) ≡ k = omega arith in
+      subst (λ (n : ℕ). HoldsCopy (getD (b .copies) (k - 1) []) n (getD (s .seats) (k - 1) [])) e (W .copies (k - 1) (omega arith)));
+}
+
+module _ (N : ℕ) (b : Buffers) (s : State) (k : ℕ) (W : Shows N b s) (K : Kept s) (lo : 1 ≤ k) (hi : k ≤ 4) where
+  shows-put : (d : Side) (store′ copy′ : Bytes) → d .seat ≡ k → Seen N store′ copy′ d
+      → Shows N (record { store = store′; copies = set (b .copies) (k - 1) copy′ }) (put s k d)
+  shows-put d store′ copy′ q E = record {
+    few = W .few;
+    many = W .many;
+    blocks = E .blocks;
+    store = E .stored;
+    four = length-set (b .copies) (k - 1) copy′ ∙ W .four;
+    copies = λ j lt. elim (eq-or j (k - 1)) [
+      | inl e ↦
+          let c : getD (set (b .copies) (k - 1) copy′) j [] ≡ copy′ =
+          ap (λ (m : ℕ). getD (set (b .copies) (k - 1) copy′) m []) e ∙ getD-set-same (b .copies) (k - 1) copy′ [] (omega (arith, W .four)) in
+          let t : getD (set (s .seats) (k - 1) (d .entries)) j [] ≡ d .entries =
+          ap (λ (m : ℕ). getD (set (s .seats) (k - 1) (d .entries)) m []) e ∙ getD-set-same (s .seats) (k - 1) (d .entries) [] (omega (arith, K .four)) in
+          let z : suc j ≡ d .seat = omega arith in
+          rw (c, t, z) (E .copied)
+      | inr ne ↦
+          rw (getD-set-other (b .copies) (k - 1) j copy′ [] ne, getD-set-other (s .seats) (k - 1) j (d .entries) [] ne) (W .copies j lt)
+    ];
+  }
+
+  -- the machine's step is its side's step, put back
+  step-side : (o : Option ℕ) (c : Call) → (sideBy o (sideOf s k) c .0 ≡ stepBy o s k c .0) × (put s k (sideBy o (sideOf s k) c .1) ≡ stepBy o s k c .1)
+  step-side (some n) c = (refl, λ i. record { blocks = s .blocks; used = s .used; history = s .history; seats = set-getD (s .seats) (k - 1) [] i })
+  step-side none c = (refl, refl)
+
+  seat-still : (o : Option ℕ) (c : Call) → sideBy o (sideOf s k) c .1 .seat ≡ k
+  seat-still (some n) c = refl
+  seat-still none c = same-seat (sideOf s k) c .0
+
+  call-one : (c : Call) → Typed c
+      → (call (b .store) (getD (b .copies) (k - 1) []) c .says ≡ step s k c .0)
+      × Shows N (record { store = call (b .store) (getD (b .copies) (k - 1) []) c .store; copies = set (b .copies) (k - 1) (call (b .store) (getD (b .copies) (k - 1) []) c .copy) }) (step s k c .1)
+  call-one c ty =
+      let o : Option ℕ = firstOf (conditions (sideOf s k) c) in
+      let r = side-one N (b .store) (getD (b .copies) (k - 1) []) (sideOf s k) (seen-seat N b s k W lo hi) (kept-side s k K lo hi) lo hi c ty in
+      let out′ : Out = call (b .store) (getD (b .copies) (k - 1) []) c in (
+        r .0 ∙ step-side o c .0,
+        subst (Shows N (record { store = out′ .store; copies = set (b .copies) (k - 1) (out′ .copy) })) (step-side o c .1)
+            (shows-put (sideBy o (sideOf s k) c .1) (out′ .store) (out′ .copy) (seat-still o c) (r .1)),
+      )
+
+-- THE STATEMENT
+pub one-step : (N : ℕ) (b : Buffers) (s : State) (t : Turn) → Shows N b s → Kept s → Valid t
+    → (turnOn b t .says ≡ step s (t .by) (t .call) .0) × Shows N (afterTurn b t) (step s (t .by) (t .call) .1)
+one-step N b s t W K v = call-one N b s (t .by) W K (v .low) (v .high) (t .call) (v .typed)

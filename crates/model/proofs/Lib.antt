@@ -1,0 +1,5 @@
+pub mod Play
+pub mod Handover
+pub mod Scripts
+pub mod OnBytes
+pub mod Layouts

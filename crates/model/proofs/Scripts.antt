@@ -1,0 +1,123 @@
+-- Scripts by four seats.
+-- Assumes nothing.
+use Prim.Native.Nat.{_+_, _^_}
+use mathlib.Core.List.{[], _∷_, map}
+use mathlib.Core.Path.{_≡_, refl}
+use lib.ListN.{replicate}
+use Rattle.model.proofs.Play.{Case, _does_, _says_, case, everything, finds, states}
+use Rattle.model.specs.History.{tree}
+use Rattle.model.specs.Machine.{Add, Commits, Copy, Delete, Edit, Log, Move, Read, Revert, Show, Status, Update, bytes, done, logged, refused, revision, status}
+
+-- 36 calls
+abbrev first : Case
+first =
+    case 32
+    (1 does Add 0 (1 ∷ 2 ∷ 3 ∷ []) says done
+    ∷ 1 does Add 31 [] says done
+    ∷ 1 does Commits 100 everything says revision 1
+    ∷ 2 does Status 0 says status 8
+    ∷ 2 does Update everything 1 says done
+    ∷ 2 does Status 0 says status 1
+    ∷ 3 does Update 1 1 says done
+    ∷ 3 does Edit 0 (9 ∷ []) says done
+    ∷ 3 does Status 0 says status 2
+    ∷ 2 does Copy 0 7 says done
+    ∷ 2 does Edit 7 (5 ∷ 5 ∷ []) says done
+    ∷ 2 does Commits 90 (2 ^ 7) says revision 2
+    ∷ 3 does Commits 91 1 says revision 3
+    ∷ 2 does Status 0 says status 3
+    ∷ 2 does Edit 0 (8 ∷ []) says done
+    ∷ 2 does Status 0 says status 4
+    ∷ 2 does Commits 92 1 says refused 11
+    ∷ 2 does Update 1 3 says refused 12
+    ∷ 2 does Revert 1 says done
+    ∷ 2 does Update 1 3 says done
+    ∷ 2 does Show 0 says bytes (9 ∷ [])
+    ∷ 4 does Update everything 2 says done
+    ∷ 4 does Move 7 8 says done
+    ∷ 4 does Move 0 9 says done
+    ∷ 4 does Status 7 says status 6
+    ∷ 4 does Commits 93 (2 ^ 7 + 2 ^ 8) says revision 4
+    ∷ 4 does Commits 94 everything says refused 11
+    ∷ 4 does Commits 94 (2 ^ 9) says revision 5
+    ∷ 1 does Read 5 9 says bytes (1 ∷ 2 ∷ 3 ∷ [])
+    ∷ 1 does Read 1 0 says bytes (1 ∷ 2 ∷ 3 ∷ [])
+    ∷ 1 does Read 3 0 says bytes (9 ∷ [])
+    ∷ 1 does Read 4 7 says refused 8
+    ∷ 1 does Log 4 8 says logged 4 93 2 4 7 2
+    ∷ 1 does Log 2 7 says logged 2 90 1 4 0 1
+    ∷ 1 does Log 0 0 says refused 7
+    ∷ 1 does Log 1 7 says logged 1 100 2 0 0 0
+    ∷ []) 10
+
+-- 49 calls, for what the first and the handover cases leave open
+abbrev second : Case
+second =
+    case 32
+    (1 does Add 0 (1 ∷ []) says done
+    ∷ 1 does Add 1 (2 ∷ []) says done
+    ∷ 1 does Commits 0 everything says revision 1
+    ∷ 1 does Copy 9 0 says refused 8
+    ∷ 1 does Delete 1 says done
+    ∷ 1 does Status 1 says status 6
+    ∷ 1 does Commits 1 everything says revision 2
+    ∷ 1 does Status 1 says status 0
+    ∷ 1 does Copy 0 2 says done
+    ∷ 1 does Copy 2 3 says done
+    ∷ 1 does Commits 2 (2 ^ 3) says revision 3
+    ∷ 1 does Log 3 3 says logged 1 2 1 4 0 1
+    ∷ 1 does Delete 2 says done
+    ∷ 1 does Status 2 says status 0
+    ∷ 1 does Add 4 (7 ∷ []) says done
+    ∷ 1 does Delete 4 says done
+    ∷ 1 does Status 4 says status 0
+    ∷ 2 does Update everything 1 says done
+    ∷ 2 does Edit 0 (8 ∷ []) says done
+    ∷ 2 does Update everything 3 says done
+    ∷ 2 does Status 0 says status 2
+    ∷ 2 does Status 1 says status 0
+    ∷ 2 does Copy 0 5 says done
+    ∷ 2 does Commits 3 (2 ^ 5) says revision 4
+    ∷ 2 does Log 4 5 says logged 2 3 1 4 0 3
+    ∷ 3 does Add 0 (9 ∷ []) says done
+    ∷ 3 does Update 1 4 says refused 12
+    ∷ 3 does Commits 4 1 says refused 11
+    ∷ 3 does Update (2 ^ 3) 4 says done
+    ∷ 3 does Copy 3 5 says done
+    ∷ 3 does Commits 4 (2 ^ 5) says refused 11
+    ∷ 4 does Update 1 4 says done
+    ∷ 4 does Status 3 says status 8
+    ∷ 4 does Edit 0 (5 ∷ []) says done
+    ∷ 4 does Revert 2 says done
+    ∷ 4 does Show 0 says bytes (5 ∷ [])
+    ∷ 4 does Delete 0 says done
+    ∷ 4 does Revert 1 says done
+    ∷ 4 does Status 0 says status 1
+    ∷ 4 does Show 0 says bytes (1 ∷ [])
+    ∷ 4 does Edit 0 (6 ∷ []) says done
+    ∷ 4 does Commits 5 1 says revision 5
+    ∷ 1 does Add 6 (1 ∷ []) says done
+    ∷ 1 does Commits 6 everything says revision 6
+    ∷ 1 does Edit 6 (replicate 481 0) says refused 7
+    ∷ 1 does Add 32 [] says refused 7
+    ∷ 1 does Read 1 32 says refused 7
+    ∷ 1 does Update everything 99 says refused 7
+    ∷ 1 does Update 0 1 says refused 7
+    ∷ []) 12
+
+-- out of date comes before no room
+abbrev third : Case
+third =
+    case 5
+    (1 does Add 0 (1 ∷ []) says done
+    ∷ 1 does Commits 0 everything says revision 1
+    ∷ 2 does Update everything 1 says done
+    ∷ 1 does Edit 0 (2 ∷ []) says done
+    ∷ 1 does Commits 0 everything says revision 2
+    ∷ 2 does Edit 0 (3 ∷ []) says done
+    ∷ 2 does Commits 0 everything says refused 11
+    ∷ []) 5
+
+pub scripts : map finds (first ∷ second ∷ third ∷ []) ≡ map states (first ∷ second ∷ third ∷ [])
+unfolding tree
+scripts = refl

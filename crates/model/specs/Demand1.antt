@@ -1,0 +1,42 @@
+-- Demand 1, the statement, over the calls on buffers: on any bytes whatever, every call answers a number if and only if its condition is the first in the document's order
+-- that holds, and then every buffer is unchanged; otherwise it is done as the machine does it. That every call is a total definition is the rest of it.
+-- Its proof is in laws/proofs/Demand1.
+-- Assumes nothing.
+use Prim.Native.Nat.{ℕ}
+use mathlib.Core.List.{[], _∷_}
+use mathlib.Core.Logic.{_↔_}
+use mathlib.Core.Path.{_≡_}
+use Rattle.model.specs.Calls.{Created, Out, bothConditions, call, conditionsIn, createCopy, createCopyConditions, createStore, freshCopy, freshStore, out, sideIn, sizeCondition, storeOnlyConditions, storeSide}
+use Rattle.model.specs.History.{Bytes}
+use Rattle.model.specs.Machine.{Call, Log, Read, doing, done, refused}
+use Rattle.model.specs.Refusals.{Clear, First}
+use Rattle.model.specs.Run.{Typed}
+use Rattle.model.specs.Shows.{Seen}
+use Rattle.model.specs.Store.{blockCount}
+
+-- a call was done on the two buffers: it answers as the machine does on what they hold, and they hold what the machine leaves
+pub record DoneOn (store copy : Bytes) (c : Call) (o : Out) : Type 0 where
+  pub says : o .says ≡ doing (sideIn store copy) c .0
+  pub holds : Seen (blockCount store) (o .store) (o .copy) (doing (sideIn store copy) c .1)
+
+-- of one call on these bytes
+pub record Refuses (store copy : Bytes) (c : Call) : Type 0 where
+  -- "A number comes if and only if its condition is the first in the order that holds."
+  pub numbered : (n : ℕ) → (call store copy c .says ≡ refused n) ↔ First (conditionsIn store copy c) n
+  -- "gives the refusal that document 01 fixes, with every buffer unchanged"
+  pub stays : (n : ℕ) → call store copy c .says ≡ refused n → call store copy c ≡ out (refused n) store copy
+
+pub record Demand1 (store copy : Bytes) : Type 0 where
+  pub refuses : (c : Call) → Refuses store copy c
+  -- "either does the call": one that takes both buffers
+  pub does : (c : Call) → Typed c → Clear (bothConditions store copy c) → DoneOn store copy c (call store copy c)
+  -- read and log, which take the store
+  pub reads : (R i : ℕ) → Clear (storeOnlyConditions store (Read R i)) → call store copy (Read R i) ≡ out (doing (storeSide store) (Read R i) .0) store copy
+  pub logs : (R i : ℕ) → Clear (storeOnlyConditions store (Log R i)) → call store copy (Log R i) ≡ out (doing (storeSide store) (Log R i) .0) store copy
+  -- create
+  pub store-numbered : (n : ℕ) → (createStore store .says ≡ refused n) ↔ First (sizeCondition store ∷ []) n
+  pub store-stays : (n : ℕ) → createStore store .says ≡ refused n → createStore store .buffer ≡ store
+  pub store-made : Clear (sizeCondition store ∷ []) → createStore store ≡ record { says = done; buffer = freshStore (blockCount store) }
+  pub copy-numbered : (k n : ℕ) → (createCopy copy k .says ≡ refused n) ↔ First (createCopyConditions copy k) n
+  pub copy-stays : (k n : ℕ) → createCopy copy k .says ≡ refused n → createCopy copy k .buffer ≡ copy
+  pub copy-made : (k : ℕ) → Clear (createCopyConditions copy k) → createCopy copy k ≡ record { says = done; buffer = freshCopy k }

@@ -1,0 +1,242 @@
+-- The machine of document 01: its state, its calls, and what each call does where it is not refused. Nothing here speaks of bytes in buffers.
+-- When a call is refused is in Refusals, and a list of calls in Run. Every definition computes.
+-- Assumes nothing.
+use Prim.Native.Nat.{_%_, _+_, _-_, _/_, _^_, suc, ℕ}
+use mathlib.Core.Bool.{Bool, cond}
+use mathlib.Core.List.{List, [], _++_, _∷_}
+use mathlib.Core.Option.{Option, none, some}
+use lib.Dec.{eqb}
+use lib.ListN.{getD, replicate, set}
+use Rattle.model.specs.Entry.{Entry, added, changeFor, copied, deleted, empty, modified, normal, ownBytes}
+use Rattle.model.specs.History.{Bytes, Change, Commit, History, add, change, changeOf, commitAt, copy, delete, isBytes, last, namedAfter, namer, names, newest, nothing, present, sheet}
+use Rattle.model.specs.Rows.{rows, total}
+
+-- "the store's block count N; used blocks U, 1 when fresh; the history, a list of commits, empty when fresh; for each seat 32 entries"
+pub record State : Type 0 where
+  pub blocks : ℕ
+  pub used : ℕ
+  pub history : History
+  pub seats : List (List Entry)
+
+-- what a call of one seat sees and changes: the store, and that seat's own entries
+pub record Side : Type 0 where
+  pub seat : ℕ
+  pub blocks : ℕ
+  pub used : ℕ
+  pub history : History
+  pub entries : List Entry
+
+-- the calls with their arguments: sheet and bytes; from and to; stamp and mask; mask and revision; revision and sheet
+pub data Call : Type 0 where
+  Add Edit : ℕ → Bytes → Call
+  Delete : ℕ → Call
+  Copy Move : ℕ → ℕ → Call
+  Commits : ℕ → ℕ → Call
+  Update : ℕ → ℕ → Call
+  Revert : ℕ → Call
+  Read : ℕ → ℕ → Call
+  Show Status : ℕ → Call
+  Log : ℕ → ℕ → Call
+
+-- what a call answers: the number of a refusal; that it is done; a commit's revision; a sheet's bytes; a status; seat, stamp, m, action, source sheet and source
+-- revision of a commit
+pub data Answer : Type 0 where
+  refused : ℕ → Answer
+  done : Answer
+  revision : ℕ → Answer
+  bytes : Bytes → Answer
+  status : ℕ → Answer
+  logged : ℕ → ℕ → ℕ → ℕ → ℕ → ℕ → Answer
+
+-- the number, of an answer that is a refusal
+abbrev pub refusal : Answer → Option ℕ
+refusal (refused n) = some n
+refusal done = none
+refusal (revision R) = none
+refusal (bytes x) = none
+refusal (status n) = none
+refusal (logged seat stamp m a i R) = none
+
+-- "used blocks U, 1 when fresh; the history .. empty when fresh; .. Fresh entries are empty."
+abbrev pub fresh : ℕ → State
+fresh n = record { blocks = n; used = 1; history = []; seats = replicate 4 (replicate 32 empty) }
+
+-- the side of seat k, and a state with the side of seat k put back
+abbrev pub sideOf : State → ℕ → Side
+sideOf s k = record { seat = k; blocks = s .blocks; used = s .used; history = s .history; entries = getD (s .seats) (k - 1) [] }
+
+abbrev pub put : State → ℕ → Side → State
+put s k d = record { blocks = d .blocks; used = d .used; history = d .history; seats = set (s .seats) (k - 1) (d .entries) }
+
+abbrev pub entry : Side → ℕ → Entry
+entry d i = getD (d .entries) i empty
+
+abbrev pub withEntries : Side → List Entry → Side
+withEntries d es = record { seat = d .seat; blocks = d .blocks; used = d .used; history = d .history; entries = es }
+
+abbrev pub withEntry : Side → ℕ → Entry → Side
+withEntry d i e = withEntries d (set (d .entries) i e)
+
+-- "bit i choosing sheet i"
+abbrev pub chosen : ℕ → ℕ → Bool
+chosen mask i = eqb (mask / 2 ^ i % 2) 1
+
+-- "Edit: bytes replaced in normal, added or copied"
+abbrev pub edited : Bytes → Entry → Entry
+edited y empty = empty
+edited y (normal b x) = normal b y
+edited y (added x) = added y
+edited y (deleted b) = deleted b
+edited y (copied s r x) = copied s r y
+
+-- "Delete: normal becomes deleted, added and copied become empty"
+abbrev pub removed : Entry → Entry
+removed empty = empty
+removed (normal b x) = deleted b
+removed (added x) = empty
+removed (deleted b) = deleted b
+removed (copied s r x) = empty
+
+-- "Copy from s to t": what t becomes
+abbrev pub copyOf : ℕ → Entry → Entry
+copyOf s empty = empty
+copyOf s (normal b x) = copied s b x
+copyOf s (added x) = added x
+copyOf s (deleted b) = empty
+copyOf s (copied s′ r x) = copied s′ r x
+
+-- "Its changes are the chosen pending entries"
+abbrev pub commitChanges : History → ℕ → List Entry → List Change
+commitChanges h mask es = rows (λ i e. cond (chosen mask i) (changeFor h i e) nothing) 0 es
+
+-- how many changes
+abbrev pub count : Change → ℕ
+count a = cond (names a) 1 0
+
+-- "adds, changes, and copies whose bytes differ from the source's at the source revision"
+abbrev pub contentOf : History → Change → ℕ
+contentOf h nothing = 0
+contentOf h (add x) = 1
+contentOf h (change x) = 1
+contentOf h delete = 0
+contentOf h (copy s r x) = cond (isBytes x (sheet h r s)) 0 1
+
+-- k + 1, for the blocks of a commit with these changes
+abbrev pub blocksFor : History → List Change → ℕ
+blocksFor h cs = total (contentOf h) cs + 1
+
+-- "Named entries become normal with the new revision as base, deleted ones empty. Others stay."
+abbrev pub settled : ℕ → Change → Entry → Entry
+settled R nothing e = e
+settled R (add x) e = normal R x
+settled R (change x) e = normal R x
+settled R delete e = empty
+settled R (copy s r x) e = normal R x
+
+abbrev pub committed : History → ℕ → List Entry → List Entry
+committed h mask es = rows (λ i e. cond (chosen mask i) (settled (suc (last h)) (changeFor h i e) e) e) 0 es
+
+abbrev pub newCommit : Side → ℕ → ℕ → Commit
+newCommit d stamp mask = record { seat = d .seat; stamp = stamp; changes = commitChanges (d .history) mask (d .entries) }
+
+-- "U grows by k + 1"; the commit "joins the end of the history"
+abbrev pub committing : Side → ℕ → ℕ → Side
+committing d stamp mask = record {
+  seat = d .seat;
+  blocks = d .blocks;
+  used = d .used + blocksFor (d .history) (commitChanges (d .history) mask (d .entries));
+  history = d .history ++ (newCommit d stamp mask ∷ []);
+  entries = committed (d .history) mask (d .entries);
+}
+
+-- "normal with base R and tree R's bytes, or empty if tree R lacks the sheet"
+abbrev pub asIn : ℕ → Option Bytes → Entry
+asIn R none = empty
+asIn R (some x) = normal R x
+
+-- "the last commit naming the sheet up to R is the one up to b"
+abbrev pub sameNamer : History → ℕ → ℕ → ℕ → Bool
+sameNamer h i R b = eqb (namer h R i) (namer h b i)
+
+-- what update makes of a chosen entry, or nothing where it is a conflict
+abbrev pub updatedTo : History → ℕ → ℕ → Entry → Option Entry
+updatedTo h R i empty = some (asIn R (sheet h R i))
+updatedTo h R i (normal b x) =
+    cond (modified h i b x)
+    (cond (sameNamer h i R b) (some (normal R x)) none)
+    (some (asIn R (sheet h R i)))
+updatedTo h R i (added x) = cond (present (sheet h R i)) none (some (added x))
+updatedTo h R i (deleted b) = cond (sameNamer h i R b) (some (deleted R)) none
+updatedTo h R i (copied s r x) = cond (present (sheet h R i)) none (some (copied s r x))
+
+abbrev pub orElse : Option Entry → Entry → Entry
+orElse none e = e
+orElse (some e′) e = e′
+
+abbrev pub updated : History → ℕ → ℕ → List Entry → List Entry
+updated h mask R es = rows (λ i e. cond (chosen mask i) (orElse (updatedTo h R i e) e) e) 0 es
+
+-- "normal and deleted become normal with base b and tree b's bytes; added and copied become empty"
+abbrev pub revertedOf : History → ℕ → Entry → Entry
+revertedOf h i empty = empty
+revertedOf h i (normal b x) = asIn b (sheet h b i)
+revertedOf h i (added x) = empty
+revertedOf h i (deleted b) = asIn b (sheet h b i)
+revertedOf h i (copied s r x) = empty
+
+abbrev pub reverted : History → ℕ → List Entry → List Entry
+reverted h mask es = rows (λ i e. cond (chosen mask i) (revertedOf h i e) e) 0 es
+
+-- "empty gives 0, or 8 if the last tree has the sheet; normal gives 1 up to date, 2 modified, 3 needs patch, 4 needs merge ..; added 5, deleted 6, copied 7"
+abbrev pub statusOf : History → ℕ → Entry → ℕ
+statusOf h i empty = cond (present (newest h i)) 8 0
+statusOf h i (normal b x) =
+    cond (namedAfter h b i)
+    (cond (modified h i b x) 4 3)
+    (cond (modified h i b x) 2 1)
+statusOf h i (added x) = 5
+statusOf h i (deleted b) = 6
+statusOf h i (copied s r x) = 7
+
+-- the bytes shown: the seat's own, "otherwise the last revision's"
+abbrev pub shown : Option Bytes → Option Bytes → Option Bytes
+shown none x = x
+shown (some y) x = some y
+
+abbrev pub asBytes : Option Bytes → Answer
+asBytes none = refused 8
+asBytes (some x) = bytes x
+
+-- "add (1), change (2), delete (3), copy (4)", 0 for nothing
+abbrev pub number : Change → ℕ
+number nothing = 0
+number (add x) = 1
+number (change x) = 2
+number delete = 3
+number (copy s r x) = 4
+
+-- the source sheet and the source revision of a copy, else zeros
+abbrev pub source : Change → ℕ × ℕ
+source nothing = (0, 0)
+source (add x) = (0, 0)
+source (change x) = (0, 0)
+source delete = (0, 0)
+source (copy s r x) = (s, r)
+
+-- "seat, stamp and m of R, and what R did to sheet i (action, source, or nothing)"
+abbrev pub logOf : Commit → ℕ → Answer
+logOf c i = logged (c .seat) (c .stamp) (total count (c .changes)) (number (changeOf c i)) (source (changeOf c i) .0) (source (changeOf c i) .1)
+
+abbrev pub doing : Side → Call → Answer × Side
+doing d (Add i x) = (done, withEntry d i (added x))
+doing d (Edit i x) = (done, withEntry d i (edited x (entry d i)))
+doing d (Delete i) = (done, withEntry d i (removed (entry d i)))
+doing d (Copy i j) = (done, withEntry d j (copyOf i (entry d i)))
+doing d (Move i j) = (done, withEntries d (set (set (d .entries) j (copyOf i (entry d i))) i (removed (entry d i))))
+doing d (Commits stamp mask) = (revision (suc (last (d .history))), committing d stamp mask)
+doing d (Update mask R) = (done, withEntries d (updated (d .history) mask R (d .entries)))
+doing d (Revert mask) = (done, withEntries d (reverted (d .history) mask (d .entries)))
+doing d (Read R i) = (asBytes (sheet (d .history) R i), d)
+doing d (Show i) = (asBytes (shown (ownBytes (entry d i)) (newest (d .history) i)), d)
+doing d (Status i) = (status (statusOf (d .history) i (entry d i)), d)
+doing d (Log R i) = (logOf (commitAt (d .history) R) i, d)

@@ -1,0 +1,91 @@
+-- What the types of src/lib.rt mean: for each case of an enum the document's number and values. The promises of the engine use these definitions.
+-- Assumes nothing.
+use Prim.Native.Nat.{ℕ}
+use mathlib.Core.List.{[]}
+use Rattle.model.specs.Calls.{Place, inCopy, inStore, noPlace}
+use Rattle.model.specs.Entry.{Entry, added, copied, deleted, empty, normal}
+use Rattle.model.specs.History.{Bytes}
+use Rattle.model.specs.Machine.{Answer, done, logged, refused, revision, status}
+use Rattle.model.specs.declared.Action.{Action}
+use Rattle.model.specs.declared.Action.the-variants.{Nothing, Add, Change, Delete, Copy}
+use Rattle.model.specs.declared.Answer.{Answer as TheAnswer}
+use Rattle.model.specs.declared.Answer.the-variants.{Refused, Done, Revision, Status, Logged}
+use Rattle.model.specs.declared.Entry.{Entry as TheEntry}
+use Rattle.model.specs.declared.Place.{Place as ThePlace}
+use Rattle.model.specs.declared.Place.the-variants.{Refused as NoPlace, InStore, InCopy}
+use Rattle.model.specs.declared.Refusal.{Refusal}
+use Rattle.model.specs.declared.Refusal.the-variants.{StoreLength, StoreCheck, StoreLayout, CopyLength, CopyLayout, Unfit, Range, Missing, Occupied, NothingPending, OutOfDate, Conflict, NoRoom}
+use Rattle.model.specs.declared.State.{State}
+use Rattle.model.specs.declared.State.the-variants.{Empty, Normal, Added, Deleted, Copied}
+
+-- "A refusal is its number"
+abbrev pub numberOf : Refusal → ℕ
+numberOf StoreLength = 1
+numberOf StoreCheck = 2
+numberOf StoreLayout = 3
+numberOf CopyLength = 4
+numberOf CopyLayout = 5
+numberOf Unfit = 6
+numberOf Range = 7
+numberOf Missing = 8
+numberOf Occupied = 9
+numberOf NothingPending = 10
+numberOf OutOfDate = 11
+numberOf Conflict = 12
+numberOf NoRoom = 13
+
+-- the state's number in an entry's block: "empty (0) .. normal (1) .. added (2) .. deleted (3) .. copied (4)"
+abbrev pub stateNumber : State → ℕ
+stateNumber Empty = 0
+stateNumber (Normal b) = 1
+stateNumber Added = 2
+stateNumber (Deleted b) = 3
+stateNumber (Copied s) = 4
+
+-- an entry in this state, with these bytes
+abbrev pub entryAs : State → Bytes → Entry
+entryAs Empty x = empty
+entryAs (Normal b) x = normal b x
+entryAs Added x = added x
+entryAs (Deleted b) x = deleted b
+entryAs (Copied s) x = copied (s .sheet) (s .revision) x
+
+abbrev pub entryOf : TheEntry → Bytes → Entry
+entryOf e x = entryAs (e .state) x
+
+-- "add (1) .. change (2) .. delete (3) .. copy (4)", and 0 for nothing
+abbrev pub actionNumber : Action → ℕ
+actionNumber Nothing = 0
+actionNumber Add = 1
+actionNumber Change = 2
+actionNumber Delete = 3
+actionNumber (Copy s) = 4
+
+-- the source of a copy, else zeros
+abbrev pub sourceSheet : Action → ℕ
+sourceSheet Nothing = 0
+sourceSheet Add = 0
+sourceSheet Change = 0
+sourceSheet Delete = 0
+sourceSheet (Copy s) = s .sheet
+
+abbrev pub sourceRevision : Action → ℕ
+sourceRevision Nothing = 0
+sourceRevision Add = 0
+sourceRevision Change = 0
+sourceRevision Delete = 0
+sourceRevision (Copy s) = s .revision
+
+-- the machine's answer
+abbrev pub answerOf : TheAnswer → Answer
+answerOf (Refused r) = refused (numberOf r)
+answerOf Done = done
+answerOf (Revision R) = revision R
+answerOf (Status n) = status n
+answerOf (Logged l) = logged (l .seat) (l .stamp) (l .changes) (actionNumber (l .action)) (sourceSheet (l .action)) (sourceRevision (l .action))
+
+-- the place of the meanings
+abbrev pub placeOf : ThePlace → Place
+placeOf (NoPlace r) = noPlace (numberOf r)
+placeOf (InStore p) = inStore (p .start) (p .len)
+placeOf (InCopy p) = inCopy (p .start) (p .len)

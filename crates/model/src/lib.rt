@@ -1,0 +1,78 @@
+// The types of the engine's arguments and answers. What each means in the document's numbers and values is defined in specs/Types.antt.
+
+// The lines of "When the engine says no", in the document's order.
+pub enum Refusal {
+    StoreLength,
+    StoreCheck,
+    StoreLayout,
+    CopyLength,
+    CopyLayout,
+    Unfit,
+    Range,
+    Missing,
+    Occupied,
+    NothingPending,
+    OutOfDate,
+    Conflict,
+    NoRoom,
+}
+
+// Where a copied entry comes from: sheet and revision.
+pub struct Source {
+    pub sheet: u32,
+    pub revision: u32,
+}
+
+// The state of an entry of a working copy; normal and deleted carry their base revision.
+pub enum State {
+    Empty,
+    Normal(u32),
+    Added,
+    Deleted(u32),
+    Copied(Source),
+}
+
+// An entry: its state, and how many bytes it has. The bytes stay in the working copy's buffer.
+pub struct Entry {
+    pub state: State,
+    pub len: usize,
+}
+
+// What a commit did to a sheet.
+pub enum Action {
+    Nothing,
+    Add,
+    Change,
+    Delete,
+    Copy(Source),
+}
+
+// What log tells of a commit and a sheet; `changes` is the document's m.
+pub struct LogEntry {
+    pub seat: u32,
+    pub stamp: u32,
+    pub changes: u32,
+    pub action: Action,
+}
+
+// The answer of a call.
+pub enum Answer {
+    Refused(Refusal),
+    Done,
+    Revision(u32),
+    Status(u32),
+    Logged(LogEntry),
+}
+
+// A part of a buffer: its first byte, and its length.
+pub struct Span {
+    pub start: usize,
+    pub len: usize,
+}
+
+// The answer of the companions of read and show: "the refusal, or buffer, place and length".
+pub enum Place {
+    Refused(Refusal),
+    InStore(Span),
+    InCopy(Span),
+}
