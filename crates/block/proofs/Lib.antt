@@ -1,1 +1,7 @@
 pub mod Says
+pub mod Fields
+pub mod Turns
+pub mod Sealing
+pub mod Parts
+pub mod Damage
+pub mod Theorems

@@ -1,12 +1,12 @@
 -- Tests beside the statements that they decide: `Says b P` is "the test b passes exactly when P holds".
 -- Assumes nothing.
 use Prim.Native.Nat.{ℕ, zero, suc, _+_, _≤_, _<_}
-use mathlib.Core.Path.{_≡_, refl, sym, ap, subst, _∙_}
+use mathlib.Core.Path.{_≡_, refl, sym, subst}
 use mathlib.Core.Bool.{Bool, true, false, not, _&&_, _||_}
 use mathlib.Core.List.{List, [], _∷_, head-eq-of-cons-eq, tail-eq-of-cons-eq, nil≢cons, cons≢nil}
 use mathlib.Core.Logic.{_⊎_, inl, inr}
 use native.Mathlib.Omega.{arith}
-use borrow.Author.Tests.{eqb-true, eqb-false}
+use borrow.Author.Tests.{eqb-true, eqb-false, ltb-true, ltb-false}
 use Rattle.block.specs.Lists.{same, All, all, allFrom}
 use lib.Dec.{T, leb, ltb, eqb, leb→le, le→leb, ltb→lt, lt→ltb, eqb→eq, eqb-refl, not-T, T-not}
 
@@ -30,6 +30,14 @@ eq-or a b = go (eqb a b) refl
     go : (t : Bool) → eqb a b ≡ t → (a ≡ b) ⊎ (a ≡ b → ⊥)
     go true e = inl (eqb-true a b e)
     go false e = inr (eqb-false a b e)
+
+-- the same for the order
+pub lt-or-ge : (a b : ℕ) → (a < b) ⊎ (b ≤ a)
+lt-or-ge a b = go (ltb a b) refl
+  where
+    go : (t : Bool) → ltb a b ≡ t → (a < b) ⊎ (b ≤ a)
+    go true e = inl (ltb-true a b e)
+    go false e = inr (ltb-false a b e)
 
 pub says-not : {b : Bool} {P : Type 0} → Says b P → Says (not b) (P → ⊥)
 says-not {b} s = record { true-so = λ t p. T-not b t (s .so-true p); so-true = λ n. not-T b (λ t. n (s .true-so t)) }
@@ -130,6 +138,7 @@ one-failed p a n i h g e = go (allFrom p a n) refl
     go true q = absurd (subst T e (allFrom-so p a n (subst T (sym q) tt) i h g))
     go false q = q
 
+-- two tests that say the same are equal; the test itself from what it says
 pub says-alike : {a b : Bool} {P Q : Type 0} → Says a P → Says b Q → (P → Q) → (Q → P) → a ≡ b
 says-alike {a} {b} s r f g = go a b (λ t. r .so-true (f (s .true-so t))) (λ t. s .so-true (g (r .true-so t)))
   where
@@ -140,11 +149,10 @@ says-alike {a} {b} s r f g = go a b (λ t. r .so-true (f (s .true-so t))) (λ t.
     go false false f g = refl
 
 pub says-true : {b : Bool} {P : Type 0} → Says b P → P → b ≡ true
-says-true {b} s p = go b (s .so-true p)
-  where
-    go : (x : Bool) → T x → x ≡ true
-    go true t = refl
-    go false t = absurd t
+says-true {b} s p = is-true b (s .so-true p)
+
+pub true-says : {b : Bool} {P : Type 0} → Says b P → b ≡ true → P
+true-says s e = s .true-so (rw e tt)
 
 pub says-false : {b : Bool} {P : Type 0} → Says b P → (P → ⊥) → b ≡ false
 says-false {b} s n = go b (λ t. n (s .true-so t))

@@ -31,7 +31,9 @@ pub fn get16(s: &[u8], k: usize) -> u16
     ensures { λ r. ⌜ r ≡ twoAt (now (s .entry)) k ⌝ }
 {
     if k < s.len() {
-        wide16(s[k]) + 256 * wide16(byte(s, k + 1))
+        let low = wide16(s[k]);
+        let high = wide16(byte(s, k + 1));
+        low + 256 * high
     } else {
         0
     }
@@ -139,7 +141,7 @@ pub fn seal(s: &mut [u8])
 pub fn is_zero(s: &[u8]) -> bool
     ensures { λ r. ⌜ r ≡ isZero (now (s .entry)) ⌝ }
 {
-    let mut i: usize = 0;
+    let mut i = 0;
     while i < s.len() {
         if s[i] != 0 {
             return false;

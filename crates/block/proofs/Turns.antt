@@ -1,0 +1,41 @@
+-- One turn of each loop over bytes, and its end: what is left from byte i on.
+-- Assumes nothing.
+use Prim.Native.Nat.{ℕ, suc, _+_, _%_, _≤_, _<_, min}
+use mathlib.Core.Path.{_≡_, sym, ap, ap₂, _∙_}
+use mathlib.Core.Bool.{true, false}
+use mathlib.Core.List.{List}
+use native.Mathlib.Nat.{mod-add-mod, add-mod-mod}
+use native.Mathlib.Numerals.{add-one}
+use native.Mathlib.Omega.{arith}
+use borrow.Author.Tests.{eq-eqb, ne-eqb}
+use lib.ListN.{length, getD, take, drop, length-take, drop-of-length-le}
+use lib.Seq.{drop-cons, getD-take}
+use Rattle.block.specs.Check.{sums, isZero}
+
+module _ (l : List ℕ) (i : ℕ) where
+  -- the two sums, not reduced
+  pub sums-step : (n a b x : ℕ) → i < min n (length l) → x ≡ getD l i 0
+      → sums (a % 65_521) (b % 65_521) (drop i (take n l)) ≡ sums ((a + x) % 65_521) ((b + (a + x)) % 65_521) (drop (i + 1) (take n l))
+  sums-step n a b x h e =
+      let g = getD (take n l) i 0 in
+      let f : g ≡ x = getD-take n l i 0 (omega arith) ∙ sym e in
+      let p : (a % 65_521 + g) % 65_521 ≡ (a + x) % 65_521 = rw f (mod-add-mod a 65_521 x) in
+      let q : (b % 65_521 + (a % 65_521 + g) % 65_521) % 65_521 ≡ (b + (a + x)) % 65_521 =
+      rw p (mod-add-mod b 65_521 ((a + x) % 65_521) ∙ add-mod-mod b (a + x) 65_521) in
+      ap (sums (a % 65_521) (b % 65_521)) (drop-cons (take n l) i 0 (omega (arith, length-take n l)))
+      ∙ ap₂ (λ (u v : ℕ). sums u v (drop (suc i) (take n l))) p q
+      ∙ rw (add-one i)
+
+  pub sums-done : (n a b : ℕ) → min n (length l) ≤ i → sums a b (drop i (take n l)) ≡ (a, b)
+  sums-done n a b h = rw (drop-of-length-le (take n l) {i = i} (omega (arith, length-take n l)))
+
+  -- the test for zeros
+  module _ (h : i < length l) where
+    pub zero-step : getD l i 0 ≡ 0 → isZero (drop i l) ≡ isZero (drop (i + 1) l)
+    zero-step e = rw (drop-cons l i 0 h, add-one i, eq-eqb (getD l i 0) 0 e)
+
+    pub zero-not : (getD l i 0 ≡ 0 → ⊥) → isZero (drop i l) ≡ false
+    zero-not n = rw (drop-cons l i 0 h, ne-eqb (getD l i 0) 0 n)
+
+  pub zero-done : length l ≤ i → isZero (drop i l) ≡ true
+  zero-done h = rw (drop-of-length-le l {i = i} h)
