@@ -6,19 +6,19 @@ use mathlib.Core.List.{List, []}
 use mathlib.Core.Path.{_∙_, _≡_, ap, refl, subst, sym}
 use native.Mathlib.Omega.{arith}
 use borrow.Author.Tests.{not-false, not-true}
-use lib.ListN.{getD, length, set}
+use lib.ListN.{getD, length}
 use Rattle.block.specs.Buffer.{blockAt}
 use Rattle.model.specs.Entry.{Entry, added, copied, deleted, empty, isEmpty, normal}
 use Rattle.model.specs.Machine.{copyOf, edited, removed}
 use Rattle.model.specs.Refusals.{nothingIn}
 use Rattle.model.specs.Types.{entryAs}
-use Rattle.model.specs.WorkCopy.{FitsCopyBlock, SheetBytes, copyBytes, entriesOf, entryBlock, seatOf}
+use Rattle.model.specs.WorkCopy.{FitsCopyBlock, SheetBytes, entriesOf, entryBlock}
 use Rattle.model.specs.declared.Entry.{Entry as TheEntry}
 use Rattle.model.specs.declared.State.{State}
 use Rattle.model.specs.declared.State.the-variants.{Added, Copied, Deleted, Empty, Normal}
-use Rattle.workcopy.proofs.Entries.{entry-fits, put-accepted, put-entries, put-seat}
+use Rattle.workcopy.proofs.Entries.{entry-fits}
 use Rattle.workcopy.proofs.Scan.{all-bytes}
-use Rattle.workcopy.specs.Copy.{Accepted, Carries, CopyOk, Fit, PutOk, Reading, bytesIn}
+use Rattle.workcopy.specs.Copy.{AcceptedCopy, Carries, CopyOk, Fit, PutOk, Reading, bytesIn}
 
 -- ---- what does not depend on the bytes
 
@@ -80,7 +80,7 @@ fits-removed (added x) f = tt
 fits-removed (deleted r) f = f
 fits-removed (copied s r x) f = tt
 
-fits-copy : (i : ℕ) (e : Entry) → i ≤ 31 → FitsCopyBlock (entryBlock e) → FitsCopyBlock (entryBlock (copyOf i e))
+pub fits-copy : (i : ℕ) (e : Entry) → i ≤ 31 → FitsCopyBlock (entryBlock e) → FitsCopyBlock (entryBlock (copyOf i e))
 fits-copy i empty h f = tt
 fits-copy i (normal r x) h f = (h, f .0, f .1)
 fits-copy i (added x) h f = f
@@ -101,6 +101,13 @@ nothing-empty (added x) t = t
 nothing-empty (deleted r) t = refl
 nothing-empty (copied s r x) t = t
 
+-- a sheet that has something is not one that is empty
+pub there-differs : (l : List ℕ) (i j : ℕ) → nothingIn (getD (entriesOf l) i empty) ≡ false → isEmpty (getD (entriesOf l) j empty) ≡ true → i ≡ j → ⊥
+there-differs l i j some free q = apart some (nothing-empty (getD (entriesOf l) i empty) (subst (λ (x : ℕ). isEmpty (getD (entriesOf l) x empty) ≡ true) (sym q) free))
+  where
+    apart : {b : Bool} → b ≡ false → b ≡ true → ⊥
+    apart p q = let z : _≡_ {A = ℕ} 0 1 = cc in omega arith
+
 -- ---- an entry that was read
 
 module _ (l : List ℕ) (i : ℕ) (e : TheEntry) (r : Reading l i e) where
@@ -115,7 +122,7 @@ module _ (l : List ℕ) (i : ℕ) (e : TheEntry) (r : Reading l i e) where
 
 -- ---- what the writing functions ask, and what they leave
 
-module _ (l : List ℕ) (a : Accepted l) (i : ℕ) (h : i ≤ 31) where
+module _ (l : List ℕ) (a : AcceptedCopy l) (i : ℕ) (h : i ≤ 31) where
   pub add-put : (b : List ℕ) → length b ≤ 480 → ((j : ℕ) → getD b j 0 < 256) → PutOk l i (record { state = Added; len = length b }) b
   add-put b n f = record { copy = a; inside = omega arith; fit = record { whole = refl; carries = tt; fits = (n, all-bytes b f) } }
 
@@ -165,7 +172,7 @@ module _ (l : List ℕ) (a : Accepted l) (i : ℕ) (h : i ≤ 31) where
         copy-put j k free =
             record {
               inside = omega arith;
-              differ = λ q. apart some (nothing-empty (getD (entriesOf l) i empty) (subst (λ (x : ℕ). isEmpty (getD (entriesOf l) x empty) ≡ true) (sym q) free));
+              differ = there-differs l i j some free;
               put = record {
                 copy = a;
                 inside = omega arith;
@@ -176,27 +183,3 @@ module _ (l : List ℕ) (a : Accepted l) (i : ℕ) (h : i ≤ 31) where
                 };
               };
             }
-          where
-            apart : {b : Bool} → b ≡ false → b ≡ true → ⊥
-            apart p q = let z : _≡_ {A = ℕ} 0 1 = cc in omega arith
-
-        -- after the copy, the source is still to be deleted
-        module _ (gone : State) (eg : entryAs gone [] ≡ removed (entryAs (e .state) [])) (j : ℕ) {v : List ℕ}
-            (ev : v ≡ copyBytes (seatOf l) (set (entriesOf l) j (entryAs st (bytesIn e (blockAt l (i + 1)))))) where
-          pub move-put : PutOk v i (record { state = gone; len = 0 }) []
-          move-put =
-              record {
-                copy = subst Accepted (sym ev) (put-accepted l a j (entryAs st (bytesIn e (blockAt l (i + 1)))) copy-fits);
-                inside = omega arith;
-                fit = delete-fit gone eg;
-              }
-
-          pub move-is : {u : List ℕ} → u ≡ copyBytes (seatOf v) (set (entriesOf v) i (entryAs gone []))
-              → u ≡ copyBytes (seatOf l) (set (set (entriesOf l) j (copyOf i (getD (entriesOf l) i empty))) i (removed (getD (entriesOf l) i empty)))
-          move-is eu =
-              let X = entryAs st (bytesIn e (blockAt l (i + 1))) in
-              let s : seatOf v ≡ seatOf l = ap seatOf ev ∙ put-seat l a j X copy-fits in
-              let n : entriesOf v ≡ set (entriesOf l) j (copyOf i (getD (entriesOf l) i empty)) =
-              ap entriesOf ev ∙ put-entries l a j X copy-fits ∙ ap (set (entriesOf l) j) copy-is in
-              let g = delete-is gone eg in
-              eu ∙ (λ k. copyBytes (s k) (set (n k) i (g k)))

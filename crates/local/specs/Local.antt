@@ -2,10 +2,11 @@
 -- The machine's own conditions and deeds rule what happens. Refusals 1 to 6 are the caller's.
 -- Assumes nothing.
 use Prim.Native.Nat.{ℕ}
+use mathlib.Core.Bool.{Bool, false, true}
 use mathlib.Core.List.{[]}
 use mathlib.Core.Option.{Option, none, some}
 use Rattle.model.specs.History.{Bytes}
-use Rattle.model.specs.Machine.{Answer, Call, Side, doing, refused}
+use Rattle.model.specs.Machine.{Answer, Call, Side, bytes, doing, done, logged, refused, revision, status}
 use Rattle.model.specs.Refusals.{conditions, firstOf}
 use Rattle.model.specs.Types.{answerOf}
 use Rattle.model.specs.WorkCopy.{copyBytes, entriesOf, seatOf}
@@ -31,3 +32,11 @@ localOut copy c = localBy (firstOf (conditions (copySide copy) c)) copy c
 -- what the code answers, and the copy that it leaves
 abbrev pub out : TheAnswer → Bytes → LocalOut
 out a copy = record { says = answerOf a; copy = copy }
+
+abbrev pub isDone : Answer → Bool
+isDone (refused n) = false
+isDone done = true
+isDone (revision R) = false
+isDone (bytes x) = false
+isDone (status n) = false
+isDone (logged seat stamp m a i R) = false

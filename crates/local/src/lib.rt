@@ -2,12 +2,12 @@
 ghost use Prim.Native.Nat.{ℕ};
 ghost use mathlib.Core.List.{List, []};
 ghost use mathlib.Core.Path.{_≡_};
-ghost use Rattle.local.specs.Local.{localOut, out};
+ghost use Rattle.local.specs.Local.{isDone, localOut, out};
 ghost use Rattle.model.specs.Entry.{isEmpty};
 ghost use Rattle.model.specs.Machine.{Add, Copy, Delete, Edit, Move, copyOf, removed};
 ghost use Rattle.model.specs.Refusals.{nothingIn};
-ghost use Rattle.model.specs.Types.{entryAs};
-ghost use Rattle.workcopy.specs.Copy.{Accepted};
+ghost use Rattle.model.specs.Types.{answerOf, entryAs};
+ghost use Rattle.workcopy.specs.Copy.{AcceptedCopy};
 use model::Answer;
 use model::Entry;
 use model::Refusal;
@@ -69,9 +69,22 @@ fn copied_from(sheet: u32, s: State) -> State
     }
 }
 
+// Whether an answer is that the call is done.
+fn is_done(a: Answer) -> bool
+    ensures { λ r. ⌜ r ≡ isDone (answerOf a) ⌝ }
+{
+    match a {
+        Answer::Refused(_) => false,
+        Answer::Done => true,
+        Answer::Revision(_) => false,
+        Answer::Status(_) => false,
+        Answer::Logged(_) => false,
+    }
+}
+
 // Add: the empty entry of a sheet becomes added, with these bytes.
 pub fn add(copy: &mut [u8], sheet: u32, bytes: &[u8]) -> Answer
-    requires { ⌜ Accepted (now copy) ⌝ }
+    requires { ⌜ AcceptedCopy (now copy) ⌝ }
     ensures { λ r. ⌜ out r (now (copy .exit)) ≡ localOut (now (copy .entry)) (Add sheet (now (bytes .entry))) ⌝ }
 {
     if 31 < sheet {
@@ -96,7 +109,7 @@ pub fn add(copy: &mut [u8], sheet: u32, bytes: &[u8]) -> Answer
 
 // Edit: other bytes in a normal, added or copied entry.
 pub fn edit(copy: &mut [u8], sheet: u32, bytes: &[u8]) -> Answer
-    requires { ⌜ Accepted (now copy) ⌝ }
+    requires { ⌜ AcceptedCopy (now copy) ⌝ }
     ensures { λ r. ⌜ out r (now (copy .exit)) ≡ localOut (now (copy .entry)) (Edit sheet (now (bytes .entry))) ⌝ }
 {
     if 31 < sheet {
@@ -121,7 +134,7 @@ pub fn edit(copy: &mut [u8], sheet: u32, bytes: &[u8]) -> Answer
 
 // Delete: normal becomes deleted, added and copied become empty.
 pub fn delete(copy: &mut [u8], sheet: u32) -> Answer
-    requires { ⌜ Accepted (now copy) ⌝ }
+    requires { ⌜ AcceptedCopy (now copy) ⌝ }
     ensures { λ r. ⌜ out r (now (copy .exit)) ≡ localOut (now (copy .entry)) (Delete sheet) ⌝ }
 {
     if 31 < sheet {
@@ -140,7 +153,7 @@ pub fn delete(copy: &mut [u8], sheet: u32) -> Answer
 
 // Copy: the empty entry of sheet `to` becomes a copy of that of sheet `from`.
 pub fn copy_sheet(copy: &mut [u8], from: u32, to: u32) -> Answer
-    requires { ⌜ Accepted (now copy) ⌝ }
+    requires { ⌜ AcceptedCopy (now copy) ⌝ }
     ensures { λ r. ⌜ out r (now (copy .exit)) ≡ localOut (now (copy .entry)) (Copy from to) ⌝ }
 {
     if 31 < from {
@@ -152,13 +165,15 @@ pub fn copy_sheet(copy: &mut [u8], from: u32, to: u32) -> Answer
     let i = from as usize;
     let j = to as usize;
     let old = workcopy::entry_at(copy, i);
+    let other = workcopy::entry_at(copy, j);
     let was = old.state;
-    if nothing_in(was) {
+    let target = other.state;
+    let occupied = !is_empty(target);
+    let missing = nothing_in(was);
+    if missing {
         return Answer::Refused(Refusal::Missing);
     }
-    let other = workcopy::entry_at(copy, j);
-    let target = other.state;
-    if !is_empty(target) {
+    if occupied {
         return Answer::Refused(Refusal::Occupied);
     }
     let len = old.len;
@@ -169,38 +184,12 @@ pub fn copy_sheet(copy: &mut [u8], from: u32, to: u32) -> Answer
 
 // Move: copy, then delete `from`.
 pub fn move_sheet(copy: &mut [u8], from: u32, to: u32) -> Answer
-    requires { ⌜ Accepted (now copy) ⌝ }
+    requires { ⌜ AcceptedCopy (now copy) ⌝ }
     ensures { λ r. ⌜ out r (now (copy .exit)) ≡ localOut (now (copy .entry)) (Move from to) ⌝ }
 {
-    if 31 < from {
-        return Answer::Refused(Refusal::Range);
+    let copied = copy_sheet(copy, from, to);
+    if !is_done(copied) {
+        return copied;
     }
-    if 31 < to {
-        return Answer::Refused(Refusal::Range);
-    }
-    let i = from as usize;
-    let j = to as usize;
-    let old = workcopy::entry_at(copy, i);
-    let was = old.state;
-    if nothing_in(was) {
-        return Answer::Refused(Refusal::Missing);
-    }
-    let other = workcopy::entry_at(copy, j);
-    let target = other.state;
-    if !is_empty(target) {
-        return Answer::Refused(Refusal::Occupied);
-    }
-    let len = old.len;
-    let state = copied_from(from, was);
-    let gone = after_delete(was);
-    workcopy::copy_entry(copy, i, j, Entry { state, len });
-    workcopy::set_entry(
-        copy,
-        i,
-        Entry {
-            state: gone,
-            len: 0,
-        },
-    );
-    Answer::Done
+    delete(copy, from)
 }
