@@ -339,32 +339,33 @@ says-part l a k =
     }
 
 module _ (l : List ℕ) (size : length l ≡ 512) (bytes : (i : ℕ) → getD l i 0 < 256) where
-  module _ (kind : getD l 0 0 ≡ 5) (n : ℕ) (en : n ≡ twoAt l 2) where
-    pub entry-long : 480 < n → false ≡ shapedBlock l
-    entry-long h = sym (says-false (says-entry l size bytes kind) (λ s. omega (arith, s .size)))
-
+  module _ (kind : getD l 0 0 ≡ 5) where
     pub entry-seven : (getD l 7 0 ≡ 0 → ⊥) → false ≡ shapedBlock l
     entry-seven ne = sym (says-false (says-entry l size bytes kind) (λ s. ne (s .seven)))
 
     pub entry-gap : isZero (take 6 (drop 10 l)) ≡ false → false ≡ shapedBlock l
     entry-gap e = sym (says-false (says-entry l size bytes kind) (λ s. subst T e (says-part l 10 6 .so-true (λ i h g. s .gap i h (omega arith)))))
 
-    pub entry-rest : n ≤ 480 → isZero (take (508 - (16 + n)) (drop (16 + n) l)) ≡ false → false ≡ shapedBlock l
-    entry-rest h e =
-        sym (says-false (says-entry l size bytes kind)
-        (λ s. subst T e (says-part l (16 + n) (508 - (16 + n)) .so-true (λ i h g. s .rest i (omega arith) (omega arith)))))
+    module _ (n : ℕ) (en : n ≡ twoAt l 2) where
+      pub entry-long : 480 < n → false ≡ shapedBlock l
+      entry-long h = sym (says-false (says-entry l size bytes kind) (λ s. omega (arith, s .size)))
 
-    pub entry-last : {b r : ℕ} {t : Bool} → n ≤ 480 → getD l 7 0 ≡ 0 → isZero (take 6 (drop 10 l)) ≡ true
-        → isZero (take (508 - (16 + n)) (drop (16 + n) l)) ≡ true → b ≡ twoAt l 4 → r ≡ twoAt l 8
-        → t ≡ fieldsOk (getD l 1 0) n b (getD l 6 0) r → t ≡ shapedBlock l
-    entry-last {b} {r} {t} h seven gap rest eb er et =
-        let f : Bool = fieldsOk (getD l 1 0) (twoAt l 2) (twoAt l 4) (getD l 6 0) (twoAt l 8) in
-        let e : t ≡ f = et ∙ (λ i. fieldsOk (getD l 1 0) (en i) (eb i) (getD l 6 0) (er i)) in
-        let g = true-says (says-part l 10 6) gap in
-        let z = true-says (says-part l (16 + n) (508 - (16 + n))) rest in
-        e ∙ says-alike (record { true-so = λ (u : T f). u; so-true = λ (u : T f). u }) (says-entry l size bytes kind)
-        (λ u. record { size = omega arith; seven = seven; gap = λ i p q. g i p (omega arith); rest = λ i p q. z i (omega arith) (omega arith); fields = u })
-        (λ s. s .fields)
+      pub entry-rest : n ≤ 480 → isZero (take (508 - (16 + n)) (drop (16 + n) l)) ≡ false → false ≡ shapedBlock l
+      entry-rest h e =
+          sym (says-false (says-entry l size bytes kind)
+          (λ s. subst T e (says-part l (16 + n) (508 - (16 + n)) .so-true (λ i h g. s .rest i (omega arith) (omega arith)))))
+
+      pub entry-last : {b r : ℕ} {t : Bool} → n ≤ 480 → getD l 7 0 ≡ 0 → isZero (take 6 (drop 10 l)) ≡ true
+          → isZero (take (508 - (16 + n)) (drop (16 + n) l)) ≡ true → b ≡ twoAt l 4 → r ≡ twoAt l 8
+          → t ≡ fieldsOk (getD l 1 0) n b (getD l 6 0) r → t ≡ shapedBlock l
+      entry-last {b} {r} {t} h seven gap rest eb er et =
+          let f : Bool = fieldsOk (getD l 1 0) (twoAt l 2) (twoAt l 4) (getD l 6 0) (twoAt l 8) in
+          let e : t ≡ f = et ∙ (λ i. fieldsOk (getD l 1 0) (en i) (eb i) (getD l 6 0) (er i)) in
+          let g = true-says (says-part l 10 6) gap in
+          let z = true-says (says-part l (16 + n) (508 - (16 + n))) rest in
+          e ∙ says-alike (record { true-so = λ (u : T f). u; so-true = λ (u : T f). u }) (says-entry l size bytes kind)
+          (λ u. record { size = omega arith; seven = seven; gap = λ i p q. g i p (omega arith); rest = λ i p q. z i (omega arith) (omega arith); fields = u })
+          (λ s. s .fields)
 
   module _ (kind : getD l 0 0 ≡ 4) where
     pub seat-low : getD l 1 0 < 1 → false ≡ shapedBlock l

@@ -1,5 +1,5 @@
--- Assumes nothing.
 -- Add, one law for each answer.
+-- Assumes nothing.
 use native.Mathlib.Omega.{arith}
 use borrow.Author.Needs.{needs}
 use Rattle.local.proofs.States.{add-put, not-empty, was-empty}

@@ -1,5 +1,5 @@
--- Assumes nothing.
 -- The state after a delete, one answer for each state.
+-- Assumes nothing.
 use mathlib.Core.List.{[]}
 use mathlib.Core.Path.{ap, sym}
 use borrow.Author.Needs.{needs}

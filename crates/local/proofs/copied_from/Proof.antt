@@ -1,5 +1,5 @@
--- Assumes nothing.
 -- The state of a copy, one answer for each state.
+-- Assumes nothing.
 use mathlib.Core.Path.{ap, sym}
 use borrow.Author.Needs.{needs}
 use Rattle.model.specs.Machine.{copyOf}

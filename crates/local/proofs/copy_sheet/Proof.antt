@@ -1,5 +1,5 @@
--- Assumes nothing.
 -- Copy, one law for each answer.
+-- Assumes nothing.
 use mathlib.Core.Path.{_∙_, ap}
 use lib.ListN.{set}
 use Rattle.model.specs.Entry.{Entry}

@@ -1,5 +1,5 @@
--- Assumes nothing.
 -- Delete, one law for each answer.
+-- Assumes nothing.
 use mathlib.Core.Path.{_∙_, ap}
 use borrow.Author.Needs.{needs}
 use lib.ListN.{set}

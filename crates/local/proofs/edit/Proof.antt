@@ -1,5 +1,5 @@
--- Assumes nothing.
 -- Edit, one law for each answer.
+-- Assumes nothing.
 use mathlib.Core.Path.{_∙_, ap}
 use native.Mathlib.Omega.{arith}
 use borrow.Author.Needs.{needs}

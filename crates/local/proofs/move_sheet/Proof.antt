@@ -1,5 +1,5 @@
--- Assumes nothing.
 -- Move: a copy that is refused refuses it, and one that is done is followed by a delete.
+-- Assumes nothing.
 use mathlib.Core.Path.{_∙_, sym}
 use borrow.Author.Tests.{not-false, not-true}
 use Rattle.local.proofs.Tests.{copied-accepted, move-is, move-refused}

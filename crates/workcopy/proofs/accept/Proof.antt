@@ -1,5 +1,5 @@
--- Assumes nothing.
 -- Acceptance: the length, the seat's block, the entries' blocks, as `ok-is` has them.
+-- Assumes nothing.
 use mathlib.Core.Path.{_∙_, refl, sym}
 use native.Mathlib.Omega.{arith}
 use borrow.Author.Needs.{needs}

@@ -1,5 +1,5 @@
--- Assumes nothing.
 -- The bytes of one sheet copied to another, and then that block: `copy-is`.
+-- Assumes nothing.
 use Prim.Native.Nat.{_*_, _+_, _-_}
 use native.Mathlib.Omega.{arith}
 use borrow.Author.Needs.{needs}

@@ -1,5 +1,5 @@
--- Assumes nothing.
 -- Create: the refusals in their order, or the fresh copy.
+-- Assumes nothing.
 use borrow.Author.Needs.{needs}
 use Rattle.workcopy.proofs.Creating.{create-done, create-high, create-length, create-low}
 use Rattle.workcopy.proofs.create_copy.Statement.{statement}

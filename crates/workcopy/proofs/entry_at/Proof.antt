@@ -1,5 +1,5 @@
--- Assumes nothing.
 -- The entry of a sheet, from its block.
+-- Assumes nothing.
 use Prim.Native.Nat.{_*_, _+_, _-_}
 use mathlib.Core.Path.{_∙_}
 use native.Mathlib.Omega.{arith}

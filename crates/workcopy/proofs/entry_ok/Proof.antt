@@ -1,5 +1,5 @@
--- Assumes nothing.
 -- A block passes: its check, its first byte, its shape.
+-- Assumes nothing.
 use mathlib.Core.Path.{_∙_, sym}
 use borrow.Author.Needs.{needs}
 use borrow.Author.Tests.{not-false, not-true}

@@ -1,5 +1,5 @@
--- Assumes nothing.
 -- The shape of an entry's block: each test that fails refutes it, and with all passed the fields decide.
+-- Assumes nothing.
 use Prim.Native.Nat.{_<_, ℕ}
 use mathlib.Core.Path.{_∙_, sym}
 use native.Mathlib.Omega.{arith}
@@ -27,7 +27,7 @@ shared-slice-read-if2 c = search needs
 returns-2 : tie.Need-returns-2
 returns-2 c =
     let a = c .before .before .before .before .before in
-    entry-seven (a .args .s .now) (a .pre .0) (bytes (c .before .before .before .before)) (a .pre .1) (c .before .before .before .get16 .result) (c .before .before .before .get16 .ensures) (c .if2 .taken)
+    entry-seven (a .args .s .now) (a .pre .0) (bytes (c .before .before .before .before)) (a .pre .1) (c .if2 .taken)
 
 sub-is-zero : tie.Need-sub-is-zero
 sub-is-zero c = search needs
@@ -44,7 +44,7 @@ is-zero-requires c κs = search needs
 returns-3 : tie.Need-returns-3
 returns-3 c =
     let a = c .before .before .before .before .before .before .before .before in
-    entry-gap (a .args .s .now) (a .pre .0) (bytes (c .before .before .before .before .before .before .before)) (a .pre .1) (c .before .before .before .before .before .before .get16 .result) (c .before .before .before .before .before .before .get16 .ensures) (sym (c .before .is-zero .ensures) ∙ not-true _ (c .if3 .taken))
+    entry-gap (a .args .s .now) (a .pre .0) (bytes (c .before .before .before .before .before .before .before)) (a .pre .1) (sym (c .before .is-zero .ensures) ∙ not-true _ (c .if3 .taken))
 
 cast-end : tie.Need-cast-end
 cast-end c = search needs

@@ -1,5 +1,5 @@
--- Assumes nothing.
 -- An entry's block with its bytes: these first, and then `set_block`.
+-- Assumes nothing.
 use borrow.Author.Needs.{needs}
 use Rattle.workcopy.proofs.Blocks.{put-block-is, put-fits}
 use Rattle.workcopy.proofs.put_block.Statement.{statement}

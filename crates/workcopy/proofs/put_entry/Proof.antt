@@ -1,5 +1,5 @@
--- Assumes nothing.
 -- One block put into the copy: `put-back`.
+-- Assumes nothing.
 use Prim.Native.Nat.{_*_, _+_, _-_}
 use native.Mathlib.Omega.{arith}
 use borrow.Author.Needs.{needs}

@@ -1,5 +1,5 @@
--- Assumes nothing.
 -- The seat's block: `seat-is`.
+-- Assumes nothing.
 use mathlib.Core.Path.{_∙_}
 use borrow.Author.Needs.{needs}
 use lib.ListN.{length-set}

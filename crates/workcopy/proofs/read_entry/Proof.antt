@@ -1,5 +1,5 @@
--- Assumes nothing.
 -- The entry that a block states, from its fields.
+-- Assumes nothing.
 use Prim.Native.Nat.{ℕ}
 use mathlib.Core.Path.{_∙_, ap}
 use borrow.Author.Needs.{needs}

@@ -1,5 +1,5 @@
--- Assumes nothing.
 -- The shape of the seat's block.
+-- Assumes nothing.
 use Prim.Native.Nat.{_<_, ℕ}
 use native.Mathlib.Omega.{arith}
 use borrow.Author.Needs.{needs}

@@ -1,5 +1,5 @@
--- Assumes nothing.
 -- An entry's block, from the head and the bytes that stand there: `set-is`.
+-- Assumes nothing.
 use native.Mathlib.Omega.{arith}
 use borrow.Author.Needs.{needs}
 use Rattle.workcopy.proofs.Blocks.{fit-short, fit-small, set-is}

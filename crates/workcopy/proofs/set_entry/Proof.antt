@@ -1,5 +1,5 @@
--- Assumes nothing.
 -- One block put into the copy, with the bytes that stand there: `put-back`.
+-- Assumes nothing.
 use Prim.Native.Nat.{_*_, _+_, _-_, ℕ}
 use mathlib.Core.List.{List}
 use mathlib.Core.Path.{_∙_, subst, sym}
