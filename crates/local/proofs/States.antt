@@ -18,7 +18,7 @@ use Rattle.model.specs.declared.State.{State}
 use Rattle.model.specs.declared.State.the-variants.{Added, Copied, Deleted, Empty, Normal}
 use Rattle.workcopy.proofs.Entries.{entry-fits}
 use Rattle.workcopy.proofs.Scan.{all-bytes}
-use Rattle.workcopy.specs.Copy.{AcceptedCopy, Carries, CopyOk, Fit, PutOk, Reading, bytesIn}
+use Rattle.workcopy.specs.Copy.{Accepted, Carries, CopyOk, Fit, PutOk, Reading, bytesIn}
 
 -- ---- what does not depend on the bytes
 
@@ -122,7 +122,7 @@ module _ (l : List ℕ) (i : ℕ) (e : TheEntry) (r : Reading l i e) where
 
 -- ---- what the writing functions ask, and what they leave
 
-module _ (l : List ℕ) (a : AcceptedCopy l) (i : ℕ) (h : i ≤ 31) where
+module _ (l : List ℕ) (a : Accepted l) (i : ℕ) (h : i ≤ 31) where
   pub add-put : (b : List ℕ) → length b ≤ 480 → ((j : ℕ) → getD b j 0 < 256) → PutOk l i (record { state = Added; len = length b }) b
   add-put b n f = record { copy = a; inside = omega arith; fit = record { whole = refl; carries = tt; fits = (n, all-bytes b f) } }
 

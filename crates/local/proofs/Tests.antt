@@ -23,7 +23,7 @@ use Rattle.laws.proofs.Rows.{or-false}
 use Rattle.local.proofs.States.{fits-copy, there-differs}
 use Rattle.local.specs.Local.{LocalOut, copySide, isDone, localBy, localOut, out}
 use Rattle.workcopy.proofs.Entries.{entry-fits, put-accepted, put-entries, put-seat}
-use Rattle.workcopy.specs.Copy.{AcceptedCopy}
+use Rattle.workcopy.specs.Copy.{Accepted}
 
 module _ (l : List ℕ) where
   refused-is : (c : Call) (r : Refusal) → firstOf (conditions (copySide l) c) ≡ some (numberOf r) → out (Refused r) l ≡ localOut l c
@@ -117,7 +117,7 @@ module _ (l : List ℕ) (i j : ℕ) (r : Answer) {t : List ℕ} (e : out r t ≡
       go (some n) o q = let w : isDone (answerOf r) ≡ false = ap (λ (x : LocalOut). isDone (x .says)) q in let z : _≡_ {A = ℕ} 0 1 = cc in absurd (omega arith)
       go none o q = (o, ap (λ (x : LocalOut). x .copy) q)
 
-  module _ (a : AcceptedCopy l) (d : isDone (answerOf r) ≡ true) where
+  module _ (a : Accepted l) (d : isDone (answerOf r) ≡ true) where
     tests : Clear (conditions (copySide l) (Copy i j))
     tests = clear (conditions (copySide l) (Copy i j)) (copied-so d .0)
 
@@ -127,8 +127,8 @@ module _ (l : List ℕ) (i j : ℕ) (r : Answer) {t : List ℕ} (e : out r t ≡
     fit : FitsCopyBlock (entryBlock (copyOf i (getD (entriesOf l) i empty)))
     fit = fits-copy i (getD (entriesOf l) i empty) near (entry-fits l a i (omega (arith, near)))
 
-    pub copied-accepted : AcceptedCopy t
-    copied-accepted = subst AcceptedCopy (sym (copied-so d .1)) (put-accepted l a j (copyOf i (getD (entriesOf l) i empty)) fit)
+    pub copied-accepted : Accepted t
+    copied-accepted = subst Accepted (sym (copied-so d .1)) (put-accepted l a j (copyOf i (getD (entriesOf l) i empty)) fit)
 
     seat : seatOf t ≡ seatOf l
     seat = ap seatOf (copied-so d .1) ∙ put-seat l a j (copyOf i (getD (entriesOf l) i empty)) fit

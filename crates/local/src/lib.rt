@@ -7,7 +7,7 @@ ghost use Rattle.model.specs.Entry.{isEmpty};
 ghost use Rattle.model.specs.Machine.{Add, Copy, Delete, Edit, Move, copyOf, removed};
 ghost use Rattle.model.specs.Refusals.{nothingIn};
 ghost use Rattle.model.specs.Types.{answerOf, entryAs};
-ghost use Rattle.workcopy.specs.Copy.{AcceptedCopy};
+ghost use Rattle.workcopy.specs.Copy.{Accepted};
 use model::Answer;
 use model::Entry;
 use model::Refusal;
@@ -84,7 +84,7 @@ fn is_done(a: Answer) -> bool
 
 // Add: the empty entry of a sheet becomes added, with these bytes.
 pub fn add(copy: &mut [u8], sheet: u32, bytes: &[u8]) -> Answer
-    requires { ⌜ AcceptedCopy (now copy) ⌝ }
+    requires { ⌜ Accepted (now copy) ⌝ }
     ensures { λ r. ⌜ out r (now (copy .exit)) ≡ localOut (now (copy .entry)) (Add sheet (now (bytes .entry))) ⌝ }
 {
     if 31 < sheet {
@@ -109,7 +109,7 @@ pub fn add(copy: &mut [u8], sheet: u32, bytes: &[u8]) -> Answer
 
 // Edit: other bytes in a normal, added or copied entry.
 pub fn edit(copy: &mut [u8], sheet: u32, bytes: &[u8]) -> Answer
-    requires { ⌜ AcceptedCopy (now copy) ⌝ }
+    requires { ⌜ Accepted (now copy) ⌝ }
     ensures { λ r. ⌜ out r (now (copy .exit)) ≡ localOut (now (copy .entry)) (Edit sheet (now (bytes .entry))) ⌝ }
 {
     if 31 < sheet {
@@ -134,7 +134,7 @@ pub fn edit(copy: &mut [u8], sheet: u32, bytes: &[u8]) -> Answer
 
 // Delete: normal becomes deleted, added and copied become empty.
 pub fn delete(copy: &mut [u8], sheet: u32) -> Answer
-    requires { ⌜ AcceptedCopy (now copy) ⌝ }
+    requires { ⌜ Accepted (now copy) ⌝ }
     ensures { λ r. ⌜ out r (now (copy .exit)) ≡ localOut (now (copy .entry)) (Delete sheet) ⌝ }
 {
     if 31 < sheet {
@@ -153,7 +153,7 @@ pub fn delete(copy: &mut [u8], sheet: u32) -> Answer
 
 // Copy: the empty entry of sheet `to` becomes a copy of that of sheet `from`.
 pub fn copy_sheet(copy: &mut [u8], from: u32, to: u32) -> Answer
-    requires { ⌜ AcceptedCopy (now copy) ⌝ }
+    requires { ⌜ Accepted (now copy) ⌝ }
     ensures { λ r. ⌜ out r (now (copy .exit)) ≡ localOut (now (copy .entry)) (Copy from to) ⌝ }
 {
     if 31 < from {
@@ -184,7 +184,7 @@ pub fn copy_sheet(copy: &mut [u8], from: u32, to: u32) -> Answer
 
 // Move: copy, then delete `from`.
 pub fn move_sheet(copy: &mut [u8], from: u32, to: u32) -> Answer
-    requires { ⌜ AcceptedCopy (now copy) ⌝ }
+    requires { ⌜ Accepted (now copy) ⌝ }
     ensures { λ r. ⌜ out r (now (copy .exit)) ≡ localOut (now (copy .entry)) (Move from to) ⌝ }
 {
     let copied = copy_sheet(copy, from, to);

@@ -23,7 +23,7 @@ use Rattle.model.specs.WorkCopy.{CopyBlock, arranged, copyBlocksOf, copyFields,
 use Rattle.model.specs.declared.Refusal.{Refusal}
 use Rattle.model.specs.declared.Refusal.the-variants.{CopyLayout, CopyLength}
 use Rattle.workcopy.proofs.Scan.{parse-seat}
-use Rattle.workcopy.specs.Copy.{AcceptedCopy, acceptOf}
+use Rattle.workcopy.specs.Copy.{Accepted, acceptOf}
 use Rattle.workcopy.specs.Shape.{okBlock, shapedBlock}
 use Rattle.workcopy.specs.declared.Acceptance.the-variants.{Refused, Seat}
 
@@ -171,7 +171,7 @@ module _ (l : List ℕ) where
       all-right g es = rw (eq-eqb (length l) 16_896 e, ok-is, h, g) (ap Seat (es ∙ sym (seat-is h)))
 
   -- what an answer of acceptance tells
-  pub seat-so : (s : ℕ) → acceptOf l ≡ Seat s → AcceptedCopy l × (s ≡ seatOf l)
+  pub seat-so : (s : ℕ) → acceptOf l ≡ Seat s → Accepted l × (s ≡ seatOf l)
   unfolding acceptOf
   seat-so s e = let r = tests (eqb (length l) 16_896) (copyOk l) e in (record { size = eqb-true (length l) 16_896 (r .0); ok = r .1 }, r .2)
     where
@@ -181,7 +181,7 @@ module _ (l : List ℕ) where
       tests false b e = let z : _≡_ {A = ℕ} 0 1 = cc in absurd (omega arith)
 
   -- the same beside the lines 4 and 5 of the document's order
-  pub accepted-first : (ds : List Condition) → AcceptedCopy l → firstOf (copySizeCondition l ∷ 5 when not (copyOk l) ∷ ds) ≡ firstOf ds
+  pub accepted-first : (ds : List Condition) → Accepted l → firstOf (copySizeCondition l ∷ 5 when not (copyOk l) ∷ ds) ≡ firstOf ds
   accepted-first ds a = rw (eq-eqb (length l) 16_896 (a .size), is-true (copyOk l) (a .ok))
 
   pub refused-first : (r : Refusal) (ds : List Condition) → acceptOf l ≡ Refused r → firstOf (copySizeCondition l ∷ 5 when not (copyOk l) ∷ ds) ≡ some (numberOf r)

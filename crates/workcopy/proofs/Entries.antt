@@ -25,14 +25,14 @@ use Rattle.laws.proofs.Parts.{joined-at, joined-set}
 use Rattle.laws.proofs.WorkCopy.{copy-holds, holds-copy}
 use Rattle.workcopy.proofs.Accepting.{entry-first}
 use Rattle.workcopy.proofs.Scan.{parse-entry}
-use Rattle.workcopy.specs.Copy.{AcceptedCopy, Carries, Reading, bytesIn, readEntry, stateIn}
+use Rattle.workcopy.specs.Copy.{Accepted, Carries, Reading, bytesIn, readEntry, stateIn}
 
 map-set : (es : List Entry) (i : ℕ) (e : Entry) → map entryBlock (set es i e) ≡ set (map entryBlock es) i (entryBlock e)
 map-set [] i e = refl
 map-set (x ∷ es) zero e = refl
 map-set (x ∷ es) (suc i) e = ap (λ (l : List CopyBlock). entryBlock x ∷ l) (map-set es i e)
 
-module _ (l : List ℕ) (a : AcceptedCopy l) where
+module _ (l : List ℕ) (a : Accepted l) where
   pub held : HoldsCopy l (seatOf l) (entriesOf l)
   held = copy-holds l (a .size) (a .ok)
 
@@ -70,7 +70,7 @@ module _ (l : List ℕ) (a : AcceptedCopy l) where
         let es = entriesOf l in
         (length-set es i e ∙ held .0, held .1, rw (map-set es i e) (All-set FitsCopyBlock (map entryBlock es) i (entryBlock e) (held .2) f), refl)
 
-    pub put-accepted : AcceptedCopy (copyBytes (seatOf l) (set (entriesOf l) i e))
+    pub put-accepted : Accepted (copyBytes (seatOf l) (set (entriesOf l) i e))
     put-accepted = let q = holds-copy (copyBytes (seatOf l) (set (entriesOf l) i e)) (seatOf l) (set (entriesOf l) i e) put-holds in record { size = q .0; ok = q .1 }
 
     pub put-seat : seatOf (copyBytes (seatOf l) (set (entriesOf l) i e)) ≡ seatOf l
@@ -120,7 +120,7 @@ read-carries (added x) = tt
 read-carries (deleted b) = refl
 read-carries (copied s r x) = tt
 
-pub reading : (l : List ℕ) (i : ℕ) {r : TheEntry} → AcceptedCopy l → i < 32 → r ≡ readEntry (blockAt l (i + 1)) → Reading l i r
+pub reading : (l : List ℕ) (i : ℕ) {r : TheEntry} → Accepted l → i < 32 → r ≡ readEntry (blockAt l (i + 1)) → Reading l i r
 reading l i {r} a h e =
     let p = blockAt l (i + 1) in
     let E = getD (entriesOf l) i empty in

@@ -22,7 +22,7 @@ use Rattle.workcopy.specs.declared.Acceptance.{Acceptance}
 use Rattle.workcopy.specs.declared.Acceptance.the-variants.{Refused, Seat}
 
 -- neither refusal 4 nor refusal 5 names these bytes
-pub record AcceptedCopy (l : List ℕ) : Type 0 where
+pub record Accepted (l : List ℕ) : Type 0 where
   pub size : length l ≡ 16_896
   pub ok : T (copyOk l)
 
@@ -59,7 +59,7 @@ pub record Fit (e : Entry) (b : List ℕ) : Type 0 where
 
 -- e with the bytes b can be put at sheet i
 pub record PutOk (l : List ℕ) (i : ℕ) (e : Entry) (b : List ℕ) : Type 0 where
-  pub copy : AcceptedCopy l
+  pub copy : Accepted l
   pub inside : i < 32
   pub fit : Fit e b
 

@@ -10,7 +10,7 @@ ghost use Rattle.model.specs.Codec.{encode, parts};
 ghost use Rattle.model.specs.Entry.{empty};
 ghost use Rattle.model.specs.Types.{entryOf};
 ghost use Rattle.model.specs.WorkCopy.{copyBytes, copyFields, entriesOf, entryBlock, seatBlock, seatOf};
-ghost use Rattle.workcopy.specs.Copy.{AcceptedCopy, Apart, CopyOk, Fit, PutOk, Reading, Small, acceptOf, bytesIn, headBytes, headOf, made, readEntry, stateIn};
+ghost use Rattle.workcopy.specs.Copy.{Accepted, Apart, CopyOk, Fit, PutOk, Reading, Small, acceptOf, bytesIn, headBytes, headOf, made, readEntry, stateIn};
 ghost use Rattle.workcopy.specs.Shape.{fieldsOk, okBlock, shapedBlock};
 use model::Answer;
 use model::Entry;
@@ -181,7 +181,7 @@ fn read_entry(s: &[u8]) -> Entry
 
 // The entry of sheet i.
 pub fn entry_at(copy: &[u8], i: usize) -> Entry
-    requires { ⌜ AcceptedCopy (now copy) × (i < 32) ⌝ }
+    requires { ⌜ Accepted (now copy) × (i < 32) ⌝ }
     ensures { λ r. ⌜ Reading (now (copy .entry)) i r ⌝ }
 {
     let at = 512 * (i + 1);
