@@ -1,7 +1,7 @@
 -- What a scan of a block's bytes has to look at, for code that does not build the canonical bytes: the content block.
 -- Assumes nothing.
 use Prim.Native.Nat.{_%_, _*_, _+_, _-_, _/_, _<_, _≤_, suc, zero, ℕ}
-use mathlib.Core.List.{List, [], _∷_, map}
+use mathlib.Core.List.{List, [], _∷_}
 use mathlib.Core.Path.{_∙_, _≡_, ap, refl, subst, subst₂, sym}
 use native.Mathlib.Decide.{decLe}
 use native.Mathlib.Omega.{arith}
@@ -10,32 +10,9 @@ use lib.Seq.{drop-cons, drop-drop, getD-drop, length-take-le}
 use Rattle.block.proofs.Says.{Says, and-true, says-and, says-eq, true-and}
 use Rattle.block.specs.Field.{twoAt}
 use Rattle.block.specs.Lists.{All, same}
-use Rattle.model.specs.Blocks.{FitsBlock, blank, bytesAt, content, fieldsOf, fitsBlock, held, parse}
-use Rattle.model.specs.Codec.{padTo, padded, parts, shaped}
-use Rattle.model.specs.Store.{blocksOf}
+use Rattle.model.specs.Blocks.{FitsBlock, content, fieldsOf, fitsBlock, parse}
+use Rattle.model.specs.Codec.{padTo, padded, shaped}
 use Rattle.laws.proofs.BlockCodes.{block-coded}
-
--- part p of a buffer of n parts
-pub part-at : (n p : ℕ) (l d : List ℕ) → p < n → getD (parts n l) p d ≡ take 512 (drop (p * 512) l)
-part-at zero p l d h = absurd (omega arith)
-part-at (suc n) zero l d h = refl
-part-at (suc n) (suc p) l d h =
-    let e : 512 + p * 512 ≡ suc p * 512 = omega arith in
-    part-at n p (drop 512 l) d (omega arith) ∙ ap (take 512) (drop-drop (p * 512) 512 l ∙ ap (λ (k : ℕ). drop k l) e)
-
-pub map-at : (ps : List (List ℕ)) (p : ℕ) → p < length ps → getD (map parse ps) p blank ≡ parse (getD ps p [])
-map-at [] p h = absurd (omega arith)
-map-at (x ∷ ps) zero h = refl
-map-at (x ∷ ps) (suc p) h = map-at ps p (omega arith)
-
-pub length-parts : (n : ℕ) (l : List ℕ) → length (parts n l) ≡ n
-length-parts zero l = refl
-length-parts (suc n) l = ap suc (length-parts n (drop 512 l))
-
--- the bytes of block p, as code that holds the whole buffer finds them
-pub look-at : (n p : ℕ) (l : List ℕ) → p < n → bytesAt (blocksOf n l) p ≡ held (parse (take 512 (drop (p * 512) l)))
-unfolding bytesAt blocksOf
-look-at n p l h = ap held (map-at (parts n l) p (rw length-parts h) ∙ ap parse (part-at n p l [] h))
 
 -- zeros at the places from n to k
 abbrev Zero : ℕ → ℕ → List ℕ → Type 0

@@ -58,7 +58,7 @@ says-lines-ok (suc m) t =
 abbrev pub zeroFrom : List ℕ → ℕ → ℕ → Bool
 zeroFrom l a n = allFrom (λ (i : ℕ). eqb (getD l i 0) 0) a n
 
-length-parse : (m : ℕ) (t : List ℕ) → length (parseLines m t) ≡ m
+pub length-parse : (m : ℕ) (t : List ℕ) → length (parseLines m t) ≡ m
 length-parse zero t = refl
 length-parse (suc m) t = ap suc (length-parse m (drop 8 t))
 
