@@ -2,6 +2,7 @@ pub mod Codec
 pub mod BlockCodes
 pub mod EntryCodes
 pub mod WorkCopy
+pub mod Parts
 pub mod All
 pub mod Puts
 pub mod Acceptance

@@ -1,0 +1,5 @@
+pub mod Scan
+pub mod Accepting
+pub mod Entries
+pub mod Blocks
+pub mod Creating

@@ -1,0 +1,3 @@
+-- The definitions that the contracts of `workcopy` cite.
+pub mod Shape
+pub mod Copy
