@@ -22,7 +22,7 @@ use Rattle.model.specs.Codec.{encode, joined, padded}
 use Rattle.model.specs.History.{Bytes}
 use Rattle.model.specs.Store.{blockCount}
 use Rattle.laws.proofs.Rows.{not-false, or-false}
-use Rattle.engine.specs.Outcome.{made}
+use Rattle.model.specs.Types.{createdAs}
 use Rattle.model.specs.declared.Answer.the-variants.{Done, Refused}
 use Rattle.model.specs.declared.Refusal.the-variants.{StoreLength}
 
@@ -69,15 +69,15 @@ fresh-bytes n len e h =
     ∙ first-sealed z
     ∙ ap (λ (x : List ℕ). encode fieldsOf label ++ x) (sym (blanks-zero (n - 1)))
 
-pub create-refused : (l : Bytes) → sizeCondition l .holds ≡ true → made (Refused StoreLength) l ≡ createStore l
+pub create-refused : (l : Bytes) → sizeCondition l .holds ≡ true → createdAs (Refused StoreLength) l ≡ createStore l
 unfolding createStore
 create-refused l e = sym (ap (λ (t : Bool). createBy (cond t (some 1) none) l (freshStore (blockCount l))) e)
 
-pub create-done : (l m : Bytes) → sizeCondition l .holds ≡ false → m ≡ sealAt (set (set (replicate (length l) 0) 0 1) 1 1) 0 → made Done m ≡ createStore l
+pub create-done : (l m : Bytes) → sizeCondition l .holds ≡ false → m ≡ sealAt (set (set (replicate (length l) 0) 0 1) 1 1) 0 → createdAs Done m ≡ createStore l
 unfolding createStore
 create-done l m e q =
     let p = or-false (not (eqb (length l % 512) 0)) (ltb (blockCount l) 2 || ltb 4_096 (blockCount l)) e in
     let z : length l % 512 ≡ 0 = eqb-true (length l % 512) 0 (not-false (eqb (length l % 512) 0) (p .0)) in
     let w : 2 ≤ blockCount l = ltb-false (blockCount l) 2 (or-false (ltb (blockCount l) 2) (ltb 4_096 (blockCount l)) (p .1) .0) in
-    ap (made Done) (q ∙ fresh-bytes (blockCount l) (length l) (omega (arith, z)) (omega (arith, w)))
+    ap (createdAs Done) (q ∙ fresh-bytes (blockCount l) (length l) (omega (arith, z)) (omega (arith, w)))
     ∙ sym (ap (λ (t : Bool). createBy (cond t (some 1) none) l (freshStore (blockCount l))) e)

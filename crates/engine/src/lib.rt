@@ -2,7 +2,7 @@
 // Each promise is one equation with the call's meaning in crates/model/specs/Calls.antt.
 ghost use mathlib.Core.Path.{_≡_};
 ghost use Rattle.model.specs.Calls.{createStore, sizeCondition};
-ghost use Rattle.engine.specs.Outcome.{made};
+ghost use Rattle.model.specs.Types.{createdAs};
 use model::Answer;
 use model::Refusal;
 
@@ -22,7 +22,7 @@ fn wrong_size(store: &[u8]) -> bool
 
 // A fresh store: the label and zero blocks.
 pub fn create_store(store: &mut [u8]) -> Answer
-    ensures { λ r. ⌜ made r (now (store .exit)) ≡ createStore (now (store .entry)) ⌝ }
+    ensures { λ r. ⌜ createdAs r (now (store .exit)) ≡ createStore (now (store .entry)) ⌝ }
 {
     if wrong_size(store) {
         return Answer::Refused(Refusal::StoreLength);
