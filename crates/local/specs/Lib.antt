@@ -1,0 +1,2 @@
+-- The definitions that the contracts of `local` cite.
+pub mod Local
