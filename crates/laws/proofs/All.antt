@@ -1,4 +1,4 @@
--- More commits after the last: the blocks that were there, then those of the new commits, are the layout of the longer history.
+-- Laws on `All`: elements taken out, set, mapped, joined, and dropped.
 -- Assumes nothing.
 use Prim.Native.Nat.{suc, zero, ℕ}
 use mathlib.Core.List.{List, [], _++_, _∷_}

@@ -37,7 +37,7 @@ tables-trail [] = refl
 tables-trail (b ∷ bs) = ends-from [] (replicate 32 0) bs
 
 -- blank blocks at the end add nothing to it
-trail-blanks : (t : Table) (front bl : List Block) → All (λ (b : Block). b ≡ blank) bl → trail t (front ++ bl) ≡ trail t front
+pub trail-blanks : (t : Table) (front bl : List Block) → All (λ (b : Block). b ≡ blank) bl → trail t (front ++ bl) ≡ trail t front
 unfolding trail
 trail-blanks t [] [] z = refl
 trail-blanks t [] (b ∷ bl) z = ap (λ (x : Block). trail t (x ∷ bl)) (z .0)

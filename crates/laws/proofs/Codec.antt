@@ -1,4 +1,4 @@
--- 512 bytes that state a thing: the bytes that are named, zeros to byte 507, and four check bytes. One law for every kind of block.
+-- 512 bytes are decoded as a thing exactly where they are its bytes and it fits: one law for every kind of block, and for a buffer of such blocks.
 -- Assumes nothing.
 use Prim.Native.Nat.{_%_, _*_, _+_, _/_, _<_, _≤_, suc, zero, ℕ}
 use mathlib.Core.Bool.{Bool, _&&_, cond, false, true}
@@ -11,6 +11,7 @@ use lib.Dec.{T}
 use lib.ListN.{drop, getD, length, length-append, length-drop, take, take-append-drop}
 use lib.Seq.{drop-at, take-at}
 use Rattle.block.proofs.Says.{Says, and-true, says-same, true-and}
+use Rattle.block.proofs.Sealing.{length-checks}
 use Rattle.block.specs.Check.{checksOf, sealed}
 use Rattle.block.specs.Lists.{All, all, same}
 use Rattle.model.specs.Codec.{decode, encode, joined, padTo, padded, parts, shaped}
@@ -47,10 +48,6 @@ padded-split l h = pad-split 508 l h
 pub length-padded : (l : List ℕ) → length (padded l) ≡ 508
 unfolding padded
 length-padded l = length-pad 508 l
-
-pub length-checks : (l : List ℕ) → length (checksOf l) ≡ 4
-unfolding checksOf
-length-checks l = refl
 
 -- a thing is known by its fields: `parse` reads them whatever follows, if the thing fits
 pub record Coded {A : Type 0} (fields : A → List ℕ) (parse : List ℕ → A) (fits : A → Bool) (Fits : A → Type 0) : Type 0 where

@@ -1,4 +1,4 @@
--- Demand 3: from one call to a list of calls, from fresh buffers on.
+-- Demand 3: from one call to a list of calls, from fresh buffers on; what is found at every revision; what an update brings; what stays.
 -- Assumes nothing.
 use Prim.Native.Nat.{_<_, _≤_, suc, zero, ℕ}
 use mathlib.Core.Bool.{Bool, _&&_, _||_, cond, false, true}

@@ -1,4 +1,4 @@
--- The bytes of a working copy: 33 blocks.
+-- The bytes of a working copy's blocks: what is written of a block is read back as that block, and the test of its limits decides them.
 -- Assumes nothing.
 use Prim.Native.Nat.{_<_, _≤_, ℕ}
 use mathlib.Core.List.{List, _++_}

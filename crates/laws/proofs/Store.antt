@@ -1,4 +1,4 @@
--- The bytes of a whole store, and of a working copy.
+-- A store's bytes pass the tests exactly where they are the layout of a history, and that is the history that is read.
 -- Assumes nothing.
 use Prim.Native.Nat.{_*_, ℕ}
 use mathlib.Core.Bool.{_&&_}

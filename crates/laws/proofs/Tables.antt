@@ -1,4 +1,4 @@
--- Laws on trees: of a grown history, of the commit that last named a sheet, of what a sound history holds.
+-- The tables of block numbers are the trees of the history: what table r has for a sheet is the block with the bytes that tree r has.
 -- Assumes nothing.
 use Prim.Native.Nat.{_+_, _<_, _≤_, suc, zero, ℕ}
 use mathlib.Core.Bool.{_&&_, cond}

@@ -133,7 +133,7 @@ namer-le n f (c ∷ h) i le =
     (λ e. omega (arith, namer-le (suc n) (suc n) h i (omega arith)))
     (λ e. omega (arith, namer-le (suc n) f h i (omega arith)))
 
-namer-append : (n f : ℕ) (h g : History) (i : ℕ) → namerFrom n f (h ++ g) i ≡ namerFrom (n + last h) (namerFrom n f h i) g i
+pub namer-append : (n f : ℕ) (h g : History) (i : ℕ) → namerFrom n f (h ++ g) i ≡ namerFrom (n + last h) (namerFrom n f h i) g i
 namer-append n f [] g i = let e : n + 0 ≡ n = omega arith in rw e
 namer-append n f (c ∷ h) g i =
     let e : n + suc (last h) ≡ suc n + last h = omega arith in

@@ -1,4 +1,4 @@
--- Every commit that the rules allow has a layout: its lines in the order of the sheets, its content blocks in the order of the lines.
+-- Every commit that the rules allow, written with its changes in the order of the sheets and its content blocks in the order of the changes, keeps the rules.
 -- Assumes nothing.
 use Prim.Native.Nat.{_+_, _<_, _≤_, suc, zero, ℕ}
 use mathlib.Core.Bool.{Bool, false, true}

@@ -39,7 +39,7 @@ front-blanks (content r b ∷ bs) = ap (λ (l : List Block). content r b ∷ l) 
 front-blanks (commit r s t ls ∷ bs) = ap (λ (l : List Block). commit r s t ls ∷ l) (front-blanks bs)
 front-blanks (blank ∷ bs) = refl
 
-no-blank : (bs : List Block) → T (all (λ b. not (isBlank b)) (front bs))
+pub no-blank : (bs : List Block) → T (all (λ b. not (isBlank b)) (front bs))
 no-blank [] = tt
 no-blank (label ∷ bs) = no-blank bs
 no-blank (content r b ∷ bs) = no-blank bs
@@ -64,7 +64,7 @@ blank-after look at k tables (commit r seat stamp ls ∷ bs) t =
     blank-after look (suc (at + k)) 0 (grown tables ls) bs (and-true (laid look at k tables seat ls) (okFrom look (suc (at + k)) 0 (grown tables ls) bs) (p .1) .1)
 blank-after look at k tables (blank ∷ bs) t = (refl, all-blank bs (and-true (eqb k 0) (all isBlank bs) t .1))
 
-blank-rest : (bs : List Block) → T (ok bs) → All (λ (b : Block). b ≡ blank) (blanks bs)
+pub blank-rest : (bs : List Block) → T (ok bs) → All (λ (b : Block). b ≡ blank) (blanks bs)
 unfolding ok
 blank-rest [] t = absurd t
 blank-rest (label ∷ bs) t = blank-after (bytesAt (label ∷ bs)) 1 0 (replicate 32 0 ∷ []) bs t
@@ -72,7 +72,7 @@ blank-rest (content r b ∷ bs) t = absurd t
 blank-rest (commit r seat stamp ls ∷ bs) t = absurd t
 blank-rest (blank ∷ bs) t = absurd t
 
-some-front : (bs : List Block) → T (ok bs) → 1 ≤ length (front bs)
+pub some-front : (bs : List Block) → T (ok bs) → 1 ≤ length (front bs)
 unfolding ok
 some-front [] t = absurd t
 some-front (label ∷ bs) t = omega arith

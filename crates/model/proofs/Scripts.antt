@@ -1,4 +1,5 @@
--- Scripts by four seats.
+-- Two long scripts by four seats: every call, every status, every refusal from 7 to 13, and for every two lines that can hold of one call a call of which both hold. Together with
+-- the handover cases they tell the machine of document 01 from its likely mistakes (crates/model/must-fail).
 -- Assumes nothing.
 use Prim.Native.Nat.{_+_, _^_}
 use mathlib.Core.List.{[], _∷_, map}
@@ -8,12 +9,13 @@ use Rattle.model.proofs.Play.{Case, _does_, _says_, case, everything, f
 use Rattle.model.specs.History.{tree}
 use Rattle.model.specs.Machine.{Add, Commits, Copy, Delete, Edit, Log, Move, Read, Revert, Show, Status, Update, bytes, done, logged, refused, revision, status}
 
--- 36 calls
+-- 64 calls: statuses, a stale commit and update, a copy from an older revision, a move of part of a copy, and at the end a store without room
 abbrev first : Case
 first =
-    case 32
+    case 12
     (1 does Add 0 (1 ∷ 2 ∷ 3 ∷ []) says done
     ∷ 1 does Add 31 [] says done
+    ∷ 1 does Status 0 says status 5
     ∷ 1 does Commits 100 everything says revision 1
     ∷ 2 does Status 0 says status 8
     ∷ 2 does Update everything 1 says done
@@ -22,6 +24,7 @@ first =
     ∷ 3 does Edit 0 (9 ∷ []) says done
     ∷ 3 does Status 0 says status 2
     ∷ 2 does Copy 0 7 says done
+    ∷ 2 does Status 7 says status 7
     ∷ 2 does Edit 7 (5 ∷ 5 ∷ []) says done
     ∷ 2 does Commits 90 (2 ^ 7) says revision 2
     ∷ 3 does Commits 91 1 says revision 3
@@ -37,6 +40,7 @@ first =
     ∷ 4 does Move 7 8 says done
     ∷ 4 does Move 0 9 says done
     ∷ 4 does Status 7 says status 6
+    ∷ 4 does Status 6 says status 0
     ∷ 4 does Commits 93 (2 ^ 7 + 2 ^ 8) says revision 4
     ∷ 4 does Commits 94 everything says refused 11
     ∷ 4 does Commits 94 (2 ^ 9) says revision 5
@@ -48,20 +52,47 @@ first =
     ∷ 1 does Log 2 7 says logged 2 90 1 4 0 1
     ∷ 1 does Log 0 0 says refused 7
     ∷ 1 does Log 1 7 says logged 1 100 2 0 0 0
-    ∷ []) 10
+    ∷ 4 does Delete 31 says done
+    ∷ 4 does Show 31 says bytes []
+    ∷ 4 does Copy 31 30 says refused 8
+    ∷ 4 does Copy 9 8 says refused 9
+    ∷ 4 does Commits 7 (2 ^ 30) says refused 10
+    ∷ 4 does Revert 1 says done
+    ∷ 4 does Status 0 says status 3
+    ∷ 3 does Add 4 (4 ∷ []) says done
+    ∷ 3 does Edit 0 (10 ∷ []) says done
+    ∷ 3 does Add 5 (5 ∷ []) says done
+    ∷ 3 does Commits 0 everything says refused 13
+    ∷ 3 does Commits 0 (2 ^ 4) says revision 6
+    ∷ 3 does Status 0 says status 2
+    ∷ 3 does Show 5 says bytes (5 ∷ [])
+    ∷ 3 does Commits 0 (2 ^ 4) says refused 10
+    ∷ 4 does Edit 0 (11 ∷ []) says done
+    ∷ 4 does Commits 0 1 says refused 11
+    ∷ 4 does Commits 0 0 says refused 7
+    ∷ 4 does Edit 32 [] says refused 7
+    ∷ 4 does Delete 32 says refused 7
+    ∷ 4 does Copy 32 0 says refused 7
+    ∷ 4 does Copy 0 32 says refused 7
+    ∷ 4 does Move 30 0 says refused 8
+    ∷ 4 does Show 32 says refused 7
+    ∷ 4 does Status 32 says refused 7
+    ∷ []) 12
 
--- 49 calls, for what the first and the handover cases leave open
+-- 78 calls: copies of copies, deletes taken back, an update that keeps an edit, one to revision 0, and limits
 abbrev second : Case
 second =
-    case 32
+    case 14
     (1 does Add 0 (1 ∷ []) says done
     ∷ 1 does Add 1 (2 ∷ []) says done
     ∷ 1 does Commits 0 everything says revision 1
     ∷ 1 does Copy 9 0 says refused 8
     ∷ 1 does Delete 1 says done
     ∷ 1 does Status 1 says status 6
+    ∷ 1 does Show 1 says bytes (2 ∷ [])
     ∷ 1 does Commits 1 everything says revision 2
     ∷ 1 does Status 1 says status 0
+    ∷ 1 does Show 1 says refused 8
     ∷ 1 does Copy 0 2 says done
     ∷ 1 does Copy 2 3 says done
     ∷ 1 does Commits 2 (2 ^ 3) says revision 3
@@ -69,18 +100,22 @@ second =
     ∷ 1 does Delete 2 says done
     ∷ 1 does Status 2 says status 0
     ∷ 1 does Add 4 (7 ∷ []) says done
+    ∷ 1 does Status 4 says status 5
     ∷ 1 does Delete 4 says done
     ∷ 1 does Status 4 says status 0
     ∷ 2 does Update everything 1 says done
+    ∷ 2 does Status 1 says status 3
     ∷ 2 does Edit 0 (8 ∷ []) says done
     ∷ 2 does Update everything 3 says done
     ∷ 2 does Status 0 says status 2
     ∷ 2 does Status 1 says status 0
     ∷ 2 does Copy 0 5 says done
+    ∷ 2 does Status 5 says status 7
     ∷ 2 does Commits 3 (2 ^ 5) says revision 4
     ∷ 2 does Log 4 5 says logged 2 3 1 4 0 3
     ∷ 3 does Add 0 (9 ∷ []) says done
     ∷ 3 does Update 1 4 says refused 12
+    ∷ 3 does Update 1 99 says refused 7
     ∷ 3 does Commits 4 1 says refused 11
     ∷ 3 does Update (2 ^ 3) 4 says done
     ∷ 3 does Copy 3 5 says done
@@ -96,28 +131,39 @@ second =
     ∷ 4 does Show 0 says bytes (1 ∷ [])
     ∷ 4 does Edit 0 (6 ∷ []) says done
     ∷ 4 does Commits 5 1 says revision 5
+    ∷ 2 does Status 0 says status 4
+    ∷ 2 does Revert 1 says done
+    ∷ 2 does Status 0 says status 3
     ∷ 1 does Add 6 (1 ∷ []) says done
     ∷ 1 does Commits 6 everything says revision 6
+    ∷ 1 does Commits 6 everything says refused 10
     ∷ 1 does Edit 6 (replicate 481 0) says refused 7
     ∷ 1 does Add 32 [] says refused 7
     ∷ 1 does Read 1 32 says refused 7
+    ∷ 1 does Read 7 0 says refused 7
     ∷ 1 does Update everything 99 says refused 7
     ∷ 1 does Update 0 1 says refused 7
-    ∷ []) 12
+    ∷ 2 does Update everything 0 says done
+    ∷ 2 does Status 5 says status 8
+    ∷ 2 does Update everything 6 says done
+    ∷ 2 does Move 6 7 says done
+    ∷ 2 does Edit 7 (2 ∷ []) says done
+    ∷ 2 does Move 0 8 says done
+    ∷ 2 does Add 9 (3 ∷ []) says done
+    ∷ 2 does Add 9 (4 ∷ []) says refused 9
+    ∷ 2 does Add 9 (replicate 481 0) says refused 7
+    ∷ 2 does Commits 8 everything says refused 13
+    ∷ 2 does Revert 0 says refused 7
+    ∷ 2 does Move 32 9 says refused 7
+    ∷ 2 does Move 9 32 says refused 7
+    ∷ 2 does Move 9 8 says refused 9
+    ∷ 2 does Commits 8 (2 ^ 0 + 2 ^ 6 + 2 ^ 8) says revision 7
+    ∷ 2 does Read 7 8 says bytes (6 ∷ [])
+    ∷ 2 does Read 6 8 says refused 8
+    ∷ 2 does Read 7 0 says refused 8
+    ∷ []) 13
 
--- out of date comes before no room
-abbrev third : Case
-third =
-    case 5
-    (1 does Add 0 (1 ∷ []) says done
-    ∷ 1 does Commits 0 everything says revision 1
-    ∷ 2 does Update everything 1 says done
-    ∷ 1 does Edit 0 (2 ∷ []) says done
-    ∷ 1 does Commits 0 everything says revision 2
-    ∷ 2 does Edit 0 (3 ∷ []) says done
-    ∷ 2 does Commits 0 everything says refused 11
-    ∷ []) 5
-
-pub scripts : map finds (first ∷ second ∷ third ∷ []) ≡ map states (first ∷ second ∷ third ∷ [])
+-- one check over the rows
+pub scripts : map finds (first ∷ second ∷ []) ≡ map states (first ∷ second ∷ [])
 unfolding tree
 scripts = refl

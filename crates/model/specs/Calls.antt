@@ -44,11 +44,7 @@ sizeCondition store = 1 when (not (eqb (length store % 512) 0) || (ltb (blockCou
 
 -- "2. Some store block's check is wrong .. 3. The store's blocks aren't the layout of a history."
 abbrev pub storeConditions : Bytes → List Condition
-storeConditions store =
-    sizeCondition store
-    ∷ 2 when not (checked (blockCount store) store)
-    ∷ 3 when not (lawful (blockCount store) store)
-    ∷ []
+storeConditions store = sizeCondition store ∷ 2 when not (checked (blockCount store) store) ∷ 3 when not (lawful (blockCount store) store) ∷ []
 
 -- "4. The working copy's length isn't 16,896."
 abbrev pub copySizeCondition : Bytes → Condition
@@ -56,11 +52,7 @@ copySizeCondition copy = 4 when not (eqb (length copy) 16_896)
 
 -- "5. The working copy has a wrong check or a broken layout .. 6. The working copy doesn't fit the store."
 abbrev pub copyConditions : Bytes → Bytes → List Condition
-copyConditions store copy =
-    copySizeCondition copy
-    ∷ 5 when not (copyOk copy)
-    ∷ 6 when not (fitsStore (storeHistory store) (entriesOf copy))
-    ∷ []
+copyConditions store copy = copySizeCondition copy ∷ 5 when not (copyOk copy) ∷ 6 when not (fitsStore (storeHistory store) (entriesOf copy)) ∷ []
 
 -- "Create takes the buffer it makes, read and log take the store, every other call takes both; lines on a buffer not taken are skipped."
 abbrev pub bothConditions : Bytes → Bytes → Call → List Condition

@@ -50,26 +50,33 @@ lacking (some e) = false
 abbrev pub conflict : History → ℕ → ℕ → Entry → Bool
 conflict h R i e = lacking (updatedTo h R i e)
 
+-- "No chosen entry is pending at commit."
+abbrev pub nothingChosen : Side → ℕ → Bool
+nothingChosen d mask = not (some-row (λ i e. chosen mask i && pending (d .history) i e) 0 (d .entries))
+
+-- "Out of date: a chosen modified or deleted entry whose sheet a commit after b names, or a chosen added or copied one that the last tree has."
+abbrev pub someStale : Side → ℕ → Bool
+someStale d mask = some-row (λ i e. chosen mask i && outOfDate (d .history) i e) 0 (d .entries)
+
+-- "Update meets a conflict."
+abbrev pub someConflict : Side → ℕ → ℕ → Bool
+someConflict d mask R = some-row (λ i e. chosen mask i && conflict (d .history) R i e) 0 (d .entries)
+
+-- "U + k + 1 exceeds N."
+abbrev pub noRoom : Side → ℕ → Bool
+noRoom d mask = ltb (d .blocks) (d .used + blocksFor (d .history) (commitChanges (d .history) mask (d .entries)))
+
 -- the lines that speak of a call, in the document's order: "a sheet number exceeds 31, bytes exceed 480, a mask is zero, or a revision exceeds the last (for log: or is 0)" (7);
 -- "edit, delete, copy or move from an empty or deleted entry; read of a sheet that tree R lacks; show of an empty or deleted entry whose sheet the last tree lacks" (8);
--- "The entry to add, or the target of copy or move, isn't empty" (9); "No chosen entry is pending at commit" (10); "Out of date" (11); "Update meets a conflict" (12);
--- "U + k + 1 exceeds N" (13)
+-- "The entry to add, or the target of copy or move, isn't empty" (9)
 abbrev pub conditions : Side → Call → List Condition
 conditions d (Add i x) = 7 when (noSheet i || ltb 480 (length x)) ∷ 9 when not (isEmpty (entry d i)) ∷ []
 conditions d (Edit i x) = 7 when (noSheet i || ltb 480 (length x)) ∷ 8 when nothingIn (entry d i) ∷ []
 conditions d (Delete i) = 7 when noSheet i ∷ 8 when nothingIn (entry d i) ∷ []
 conditions d (Copy i j) = 7 when (noSheet i || noSheet j) ∷ 8 when nothingIn (entry d i) ∷ 9 when not (isEmpty (entry d j)) ∷ []
 conditions d (Move i j) = 7 when (noSheet i || noSheet j) ∷ 8 when nothingIn (entry d i) ∷ 9 when not (isEmpty (entry d j)) ∷ []
-conditions d (Commits stamp mask) =
-    7 when eqb mask 0
-    ∷ 10 when not (some-row (λ i e. chosen mask i && pending (d .history) i e) 0 (d .entries))
-    ∷ 11 when some-row (λ i e. chosen mask i && outOfDate (d .history) i e) 0 (d .entries)
-    ∷ 13 when ltb (d .blocks) (d .used + blocksFor (d .history) (commitChanges (d .history) mask (d .entries)))
-    ∷ []
-conditions d (Update mask R) =
-    7 when (eqb mask 0 || tooLate (d .history) R)
-    ∷ 12 when some-row (λ i e. chosen mask i && conflict (d .history) R i e) 0 (d .entries)
-    ∷ []
+conditions d (Commits stamp mask) = 7 when eqb mask 0 ∷ 10 when nothingChosen d mask ∷ 11 when someStale d mask ∷ 13 when noRoom d mask ∷ []
+conditions d (Update mask R) = 7 when (eqb mask 0 || tooLate (d .history) R) ∷ 12 when someConflict d mask R ∷ []
 conditions d (Revert mask) = 7 when eqb mask 0 ∷ []
 conditions d (Read R i) = 7 when (noSheet i || tooLate (d .history) R) ∷ 8 when not (present (sheet (d .history) R i)) ∷ []
 conditions d (Show i) = 7 when noSheet i ∷ 8 when not (present (shown (ownBytes (entry d i)) (newest (d .history) i))) ∷ []

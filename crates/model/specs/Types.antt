@@ -1,22 +1,21 @@
 -- What the types of src/lib.rt mean: for each case of an enum the document's number and values. The promises of the engine use these definitions.
 -- Assumes nothing.
 use Prim.Native.Nat.{ℕ}
-use mathlib.Core.List.{[]}
-use Rattle.model.specs.Calls.{Place, inCopy, inStore, noPlace}
+use Rattle.model.specs.Calls.{Created, Place, inCopy, inStore, noPlace}
 use Rattle.model.specs.Entry.{Entry, added, copied, deleted, empty, normal}
 use Rattle.model.specs.History.{Bytes}
 use Rattle.model.specs.Machine.{Answer, done, logged, refused, revision, status}
 use Rattle.model.specs.declared.Action.{Action}
-use Rattle.model.specs.declared.Action.the-variants.{Nothing, Add, Change, Delete, Copy}
+use Rattle.model.specs.declared.Action.the-variants.{Add, Change, Copy, Delete, Nothing}
 use Rattle.model.specs.declared.Answer.{Answer as TheAnswer}
-use Rattle.model.specs.declared.Answer.the-variants.{Refused, Done, Revision, Status, Logged}
+use Rattle.model.specs.declared.Answer.the-variants.{Done, Logged, Refused, Revision, Status}
 use Rattle.model.specs.declared.Entry.{Entry as TheEntry}
 use Rattle.model.specs.declared.Place.{Place as ThePlace}
-use Rattle.model.specs.declared.Place.the-variants.{Refused as NoPlace, InStore, InCopy}
+use Rattle.model.specs.declared.Place.the-variants.{InCopy, InStore, Refused as NoPlace}
 use Rattle.model.specs.declared.Refusal.{Refusal}
-use Rattle.model.specs.declared.Refusal.the-variants.{StoreLength, StoreCheck, StoreLayout, CopyLength, CopyLayout, Unfit, Range, Missing, Occupied, NothingPending, OutOfDate, Conflict, NoRoom}
+use Rattle.model.specs.declared.Refusal.the-variants.{Conflict, CopyLayout, CopyLength, Missing, NoRoom, NothingPending, Occupied, OutOfDate, Range, StoreCheck, StoreLayout, StoreLength, Unfit}
 use Rattle.model.specs.declared.State.{State}
-use Rattle.model.specs.declared.State.the-variants.{Empty, Normal, Added, Deleted, Copied}
+use Rattle.model.specs.declared.State.the-variants.{Added, Copied, Deleted, Empty, Normal}
 
 -- "A refusal is its number"
 abbrev pub numberOf : Refusal → ℕ
@@ -83,6 +82,10 @@ answerOf Done = done
 answerOf (Revision R) = revision R
 answerOf (Status n) = status n
 answerOf (Logged l) = logged (l .seat) (l .stamp) (l .changes) (actionNumber (l .action)) (sourceSheet (l .action)) (sourceRevision (l .action))
+
+-- an answer of create, beside the buffer that it makes
+abbrev pub createdAs : TheAnswer → Bytes → Created
+createdAs r b = record { says = answerOf r; buffer = b }
 
 -- the place of the meanings
 abbrev pub placeOf : ThePlace → Place

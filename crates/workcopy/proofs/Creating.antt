@@ -19,7 +19,7 @@ use Rattle.model.specs.declared.Refusal.the-variants.{CopyLength, Range}
 use Rattle.laws.proofs.Codec.{length-encode}
 use Rattle.laws.proofs.Fresh.{create-copy}
 use Rattle.laws.proofs.Parts.{finish-is}
-use Rattle.workcopy.specs.Copy.{made}
+use Rattle.model.specs.Types.{createdAs}
 
 pub seat-is : (s : List ℕ) (seat : ℕ) {t u : List ℕ} → length s ≡ 512 → t ≡ written 2 (replicate 506 0) (set (set s 0 4) 1 seat) → u ≡ sealOf t
     → u ≡ encode copyFields (seatBlock seat)
@@ -61,18 +61,18 @@ unfolding soFar
 fresh-done l i e len = ap (soFar l) e ∙ append-nil (take 16_896 l) ∙ take-all 16_896 l (omega arith)
 
 module _ (l : List ℕ) (seat : ℕ) where
-  pub create-length : (length l ≡ 16_896 → ⊥) → made (Refused CopyLength) l ≡ createCopy l seat
+  pub create-length : (length l ≡ 16_896 → ⊥) → createdAs (Refused CopyLength) l ≡ createCopy l seat
   unfolding createCopy
   create-length ne = rw (ne-eqb (length l) 16_896 ne)
 
   module _ (e : length l ≡ 16_896) where
-    pub create-low : seat < 1 → made (Refused Range) l ≡ createCopy l seat
+    pub create-low : seat < 1 → createdAs (Refused Range) l ≡ createCopy l seat
     unfolding createCopy
     create-low h = rw (eq-eqb (length l) 16_896 e, lt-leb 1 seat h)
 
-    pub create-high : 1 ≤ seat → 4 < seat → made (Refused Range) l ≡ createCopy l seat
+    pub create-high : 1 ≤ seat → 4 < seat → createdAs (Refused Range) l ≡ createCopy l seat
     unfolding createCopy
     create-high g h = rw (eq-eqb (length l) 16_896 e, le-leb 1 seat g, lt-leb seat 4 h)
 
-    pub create-done : {t : List ℕ} → 1 ≤ seat → seat ≤ 4 → t ≡ freshCopy seat → made Done t ≡ createCopy l seat
-    create-done g h p = ap (made Done) p ∙ sym (create-copy l seat e g h)
+    pub create-done : {t : List ℕ} → 1 ≤ seat → seat ≤ 4 → t ≡ freshCopy seat → createdAs Done t ≡ createCopy l seat
+    create-done g h p = ap (createdAs Done) p ∙ sym (create-copy l seat e g h)

@@ -9,11 +9,9 @@ use lib.Dec.{T, eqb}
 use lib.ListN.{drop, getD, length, take}
 use Rattle.block.specs.Buffer.{blockAt}
 use Rattle.block.specs.Field.{two, twoAt}
-use Rattle.model.specs.Calls.{Created}
 use Rattle.model.specs.Entry.{empty}
-use Rattle.model.specs.Types.{answerOf, entryOf}
+use Rattle.model.specs.Types.{entryOf}
 use Rattle.model.specs.WorkCopy.{FitsCopyBlock, copyOk, entriesOf, entryBlock, seatOf}
-use Rattle.model.specs.declared.Answer.{Answer}
 use Rattle.model.specs.declared.Entry.{Entry}
 use Rattle.model.specs.declared.Refusal.the-variants.{CopyLayout, CopyLength}
 use Rattle.model.specs.declared.State.{State}
@@ -104,9 +102,3 @@ Small (Normal b) n = (n ≤ 480) × (b < 65_536)
 Small Added n = n ≤ 480
 Small (Deleted b) n = (n ≤ 480) × (b < 65_536)
 Small (Copied s) n = (n ≤ 480) × (s .sheet < 256) × (s .revision < 65_536)
-
--- ---- create
-
--- an answer of create, and the buffer after it
-abbrev pub made : Answer → List ℕ → Created
-made a l = record { says = answerOf a; buffer = l }

@@ -8,9 +8,9 @@ ghost use Rattle.block.specs.Lists.{all};
 ghost use Rattle.model.specs.Calls.{createCopy, freshCopy};
 ghost use Rattle.model.specs.Codec.{encode, parts};
 ghost use Rattle.model.specs.Entry.{empty};
-ghost use Rattle.model.specs.Types.{entryOf};
+ghost use Rattle.model.specs.Types.{createdAs, entryOf};
 ghost use Rattle.model.specs.WorkCopy.{copyBytes, copyFields, entriesOf, entryBlock, seatBlock, seatOf};
-ghost use Rattle.workcopy.specs.Copy.{Accepted, Apart, CopyOk, Fit, PutOk, Reading, Small, acceptOf, bytesIn, headBytes, headOf, made, readEntry, stateIn};
+ghost use Rattle.workcopy.specs.Copy.{Accepted, Apart, CopyOk, Fit, PutOk, Reading, Small, acceptOf, bytesIn, headBytes, headOf, readEntry, stateIn};
 ghost use Rattle.workcopy.specs.Shape.{fieldsOk, okBlock, shapedBlock};
 use model::Answer;
 use model::Entry;
@@ -342,7 +342,7 @@ fn fresh(copy: &mut [u8], seat: u8)
 
 // Create: a fresh copy, or the refusal.
 pub fn create_copy(copy: &mut [u8], seat: u32) -> Answer
-    ensures { λ r. ⌜ made r (now (copy .exit)) ≡ createCopy (now (copy .entry)) seat ⌝ }
+    ensures { λ r. ⌜ createdAs r (now (copy .exit)) ≡ createCopy (now (copy .entry)) seat ⌝ }
 {
     if copy.len() != 16896 {
         return Answer::Refused(Refusal::CopyLength);

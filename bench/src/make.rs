@@ -1,0 +1,167 @@
+//! Stores to measure on, laid out by hand as document 01 says.
+
+use crate::store::{seal, BLOCK};
+
+pub struct Maker {
+    pub store: Vec<u8>,
+    pub used: usize,
+    pub last: usize,
+}
+
+pub struct Change<'a> {
+    pub sheet: u8,
+    pub action: u8,
+    /// The bytes of a content block of its own.
+    pub content: Option<&'a [u8]>,
+    /// The block of a copy that shares its source's.
+    pub shared: u16,
+    pub source: u8,
+    pub from: u16,
+}
+
+pub fn add(sheet: u8, content: &[u8]) -> Change<'_> {
+    Change { sheet, action: 1, content: Some(content), shared: 0, source: 0, from: 0 }
+}
+
+pub fn change(sheet: u8, content: &[u8]) -> Change<'_> {
+    Change { sheet, action: 2, content: Some(content), shared: 0, source: 0, from: 0 }
+}
+
+pub fn delete<'a>(sheet: u8) -> Change<'a> {
+    Change { sheet, action: 3, content: None, shared: 0, source: 0, from: 0 }
+}
+
+pub fn copy<'a>(sheet: u8, source: u8, from: u16, shared: u16) -> Change<'a> {
+    Change { sheet, action: 4, content: None, shared, source, from }
+}
+
+impl Maker {
+    pub fn new(blocks: usize) -> Maker {
+        let mut store = vec![0; blocks * BLOCK];
+        store[0] = 1;
+        store[1] = 1;
+        seal(&mut store[..BLOCK]);
+        Maker { store, used: 1, last: 0 }
+    }
+
+    pub fn room(&self) -> usize {
+        self.store.len() / BLOCK - self.used
+    }
+
+    fn block(&mut self) -> &mut [u8] {
+        let at = self.used * BLOCK;
+        self.used += 1;
+        &mut self.store[at..at + BLOCK]
+    }
+
+    /// Writes a commit: contents first, then the commit block. The number of its first block.
+    pub fn commit(&mut self, seat: u8, stamp: u32, changes: &[Change]) -> usize {
+        let first = self.used;
+        self.last += 1;
+        let r = (self.last as u16).to_le_bytes();
+        let mut lines = vec![];
+        for c in changes {
+            let at = match c.content {
+                Some(bytes) => {
+                    let at = self.used as u16;
+                    let b = self.block();
+                    b[0] = 2;
+                    b[2..4].copy_from_slice(&(bytes.len() as u16).to_le_bytes());
+                    b[4..6].copy_from_slice(&r);
+                    b[16..16 + bytes.len()].copy_from_slice(bytes);
+                    seal(b);
+                    at
+                }
+                None => c.shared,
+            };
+            lines.extend([c.sheet, c.action]);
+            lines.extend(at.to_le_bytes());
+            lines.extend([c.source, 0]);
+            lines.extend(c.from.to_le_bytes());
+        }
+        let b = self.block();
+        b[0] = 3;
+        b[2] = changes.len() as u8;
+        b[4..6].copy_from_slice(&r);
+        b[6] = seat;
+        b[8..12].copy_from_slice(&stamp.to_le_bytes());
+        b[16..16 + lines.len()].copy_from_slice(&lines);
+        seal(b);
+        first
+    }
+}
+
+/// A small generator of numbers, seeded.
+pub struct Rng(pub u64);
+
+impl Rng {
+    pub fn next(&mut self) -> u64 {
+        self.0 ^= self.0 << 13;
+        self.0 ^= self.0 >> 7;
+        self.0 ^= self.0 << 17;
+        self.0
+    }
+
+    pub fn below(&mut self, n: usize) -> usize {
+        (self.next() % n as u64) as usize
+    }
+
+    pub fn bytes(&mut self, n: usize) -> Vec<u8> {
+        (0..n).map(|_| self.next() as u8).collect()
+    }
+}
+
+/// Ordinary content: sheets of 100 to 480 bytes, commits of one to three changes.
+pub fn ordinary(blocks: usize) -> Vec<u8> {
+    let mut rng = Rng(7);
+    let mut m = Maker::new(blocks);
+    let mut present = [false; 32];
+    while m.room() >= 4 {
+        let sheets: Vec<usize> = (0..1 + rng.below(3)).map(|j| (rng.below(10) * 3 + j) % 32).collect();
+        let contents: Vec<Vec<u8>> = sheets.iter().map(|_| {
+            let n = 100 + rng.below(381);
+            rng.bytes(n)
+        }).collect();
+        let mut changes = vec![];
+        let mut seen = 0u32;
+        for (&s, c) in sheets.iter().zip(&contents) {
+            if seen >> s & 1 == 0 {
+                seen |= 1 << s;
+                changes.push(if present[s] { change(s as u8, c) } else { add(s as u8, c) });
+                present[s] = true;
+            }
+        }
+        m.commit(1, 7, &changes);
+    }
+    m.store
+}
+
+/// The worst that was found: most commits, each with 31 copies of the oldest revision's longest sheet, or their deletes.
+pub fn worst(blocks: usize) -> Vec<u8> {
+    let mut m = Maker::new(blocks);
+    let bytes = [0xabu8; 480];
+    let first = m.commit(1, 7, &[add(0, &bytes)]) as u16;
+    while m.room() >= 2 {
+        let copies: Vec<Change> = (1..32).map(|i| copy(i, 0, 1, first)).collect();
+        m.commit(1, 7, &copies);
+        let deletes: Vec<Change> = (1..32).map(delete).collect();
+        m.commit(1, 7, &deletes);
+    }
+    m.store
+}
+
+/// Copies with contents of their own, each compared with its source to the last byte: 31 contents a commit.
+pub fn compared(blocks: usize) -> Vec<u8> {
+    let mut m = Maker::new(blocks);
+    let bytes = [0xabu8; 480];
+    let mut other = bytes;
+    other[479] = 0;
+    m.commit(1, 7, &[add(0, &bytes)]);
+    while m.room() >= 33 {
+        let copies: Vec<Change> = (1..32).map(|i| Change { sheet: i, action: 4, content: Some(&other), shared: 0, source: 0, from: 1 }).collect();
+        m.commit(1, 7, &copies);
+        let deletes: Vec<Change> = (1..32).map(delete).collect();
+        m.commit(1, 7, &deletes);
+    }
+    m.store
+}

@@ -1,0 +1,94 @@
+-- What is known of buffers that are accepted; what `check` answers; what update makes of an entry.
+-- Assumes nothing.
+use Prim.Native.Nat.{ℕ}
+use mathlib.Core.Bool.{Bool, cond, true}
+use mathlib.Core.List.{_++_, []}
+use mathlib.Core.Option.{Option, none, some}
+use mathlib.Core.Path.{_≡_}
+use lib.Dec.{eqb}
+use lib.ListN.{getD}
+use Rattle.model.specs.Blocks.{bytesAt}
+use Rattle.model.specs.Calls.{copyConditions, storeConditions}
+use Rattle.model.specs.Entry.{Entry, added, copied, deleted, empty, normal, ownBytes}
+use Rattle.model.specs.Fitting.{fitsStore}
+use Rattle.model.specs.History.{Bytes, last}
+use Rattle.model.specs.Refusals.{firstOf}
+use Rattle.model.specs.Store.{blockCount, storeBlocks, storeHistory, usedOf}
+use Rattle.model.specs.WorkCopy.{entriesOf, seatOf}
+use Rattle.model.specs.declared.Refusal.{Refusal}
+use Rattle.model.specs.declared.Refusal.the-variants.{StoreLength, StoreCheck, StoreLayout, CopyLength, CopyLayout, Unfit}
+use Rattle.search.specs.Find.{Accepted}
+use Rattle.workcopy.specs.Copy.{Accepted as CopyAccepted}
+use Rattle.entries.specs.declared.Checked.{Checked}
+use Rattle.entries.specs.declared.Checked.the-variants.{Ready, Refused}
+use Rattle.entries.specs.declared.Update.{Update}
+use Rattle.entries.specs.declared.Update.the-variants.{Clear, Conflict, Rebase, Stay, Take}
+use Rattle.entries.specs.declared.View.{View}
+
+-- the store is accepted, and these are its numbers
+pub record Opened (store : Bytes) (v : View) : Type 0 where
+  pub accepted : Accepted store (v .n) (v .used)
+  pub last : v .last ≡ last (storeHistory store)
+
+-- and the working copy is accepted, whether or not it fits
+pub record Viewed (store copy : Bytes) (v : View) : Type 0 where
+  pub opened : Opened store v
+  pub copy : CopyAccepted copy
+
+-- and it fits
+pub record Fitting (store copy : Bytes) (v : View) : Type 0 where
+  pub viewed : Viewed store copy v
+  pub fits : fitsStore (storeHistory store) (entriesOf copy) ≡ true
+  pub seat : v .seat ≡ seatOf copy
+
+abbrev pub viewOf : Bytes → Bytes → View
+viewOf store copy = record { n = blockCount store; used = usedOf store; last = last (storeHistory store); seat = seatOf copy }
+
+-- the refusals 1 to 6
+abbrev pub refusalAs : ℕ → Refusal
+refusalAs n =
+    cond (eqb n 1) StoreLength (cond (eqb n 2) StoreCheck (cond (eqb n 3) StoreLayout (cond (eqb n 4) CopyLength (cond (eqb n 5) CopyLayout Unfit))))
+
+abbrev pub checkedBy : Option ℕ → View → Checked
+checkedBy none v = Ready v
+checkedBy (some n) v = Refused (refusalAs n)
+
+-- the first of the lines 1 to 6 that holds, or what is known of the two buffers
+unfoldable pub checkOf : Bytes → Bytes → Checked
+checkOf store copy = checkedBy (firstOf (storeConditions store ++ copyConditions store copy)) (viewOf store copy)
+
+-- entry i of a working copy, and its bytes, none where it has none
+abbrev pub entryIn : Bytes → ℕ → Entry
+entryIn copy i = getD (entriesOf copy) i empty
+
+abbrev pub orNone : Option Bytes → Bytes
+orNone none = []
+orNone (some x) = x
+
+abbrev pub bytesOf : Bytes → ℕ → Bytes
+bytesOf copy i = orNone (ownBytes (entryIn copy i))
+
+-- "normal gives 1 up to date, 2 modified, 3 needs patch, 4 needs merge": a commit after the base names the sheet, the entry is modified
+abbrev pub normalStatus : Bool → Bool → ℕ
+normalStatus later modified = cond later (cond modified 4 3) (cond modified 2 1)
+
+-- ---- update
+
+abbrev pub takenAs : ℕ → Update
+takenAs p = cond (eqb p 0) Clear (Take p)
+
+-- the entry with its bytes and the base R
+abbrev pub rebased : ℕ → Entry → Entry
+rebased R empty = empty
+rebased R (normal b x) = normal R x
+rebased R (added x) = added x
+rebased R (deleted b) = deleted R
+rebased R (copied s r x) = copied s r x
+
+-- what the code's word for it makes of an entry, at an update to R
+abbrev pub updatedAs : Update → Bytes → ℕ → Entry → Option Entry
+updatedAs Conflict store R e = none
+updatedAs Stay store R e = some e
+updatedAs Clear store R e = some empty
+updatedAs (Take p) store R e = some (normal R (bytesAt (storeBlocks store) p))
+updatedAs Rebase store R e = some (rebased R e)

@@ -1,0 +1,95 @@
+-- What is found in an accepted store: the search back finds the block that the tree's table has and the last commit that names the sheet; that block is 0 exactly
+-- where the tree lacks the sheet, else it holds the sheet's bytes, and it is a used block.
+-- Assumes nothing.
+use Prim.Native.Nat.{_*_, _+_, _/_, _<_, _≤_, ℕ}
+use mathlib.Core.Bool.{false}
+use mathlib.Core.List.{List, [], _++_, _∷_, map}
+use mathlib.Core.Logic.{_↔_}
+use mathlib.Core.Option.{Option, none, some}
+use mathlib.Core.Path.{_∙_, _≡_, ap, refl, subst, sym}
+use native.Mathlib.Omega.{arith}
+use lib.Dec.{T}
+use lib.ListN.{getD, length, replicate}
+use Rattle.block.specs.Lists.{All}
+use Rattle.model.specs.Blocks.{Block, blank, bytesAt}
+use Rattle.model.specs.History.{Bytes, last, namer, present, sheet, tree}
+use Rattle.model.specs.Layout.{Lays, Table}
+use Rattle.model.specs.Pass.{ok, readAll, tablesOf}
+use Rattle.model.specs.Store.{blanks, blockCount, blockUsed, blocksOf, front, historyOf, storeBlocks, storeHistory, usedOf}
+use Rattle.laws.proofs.Acceptance.{accepted-lays}
+use Rattle.laws.proofs.All.{All-getD}
+use Rattle.laws.proofs.Append.{Below}
+use Rattle.laws.proofs.Bridge.{absent-iff, has, tables-trail, trail-blanks}
+use Rattle.laws.proofs.Grows.{tables-below}
+use Rattle.laws.proofs.Tables.{slot, tables-trees, trailOf}
+use Rattle.laws.proofs.Writing.{blank-rest, front-blanks, no-blank, some-front}
+use Rattle.search.proofs.Naming.{named-last}
+use Rattle.search.proofs.Revisions.{okAll, passed, used-high}
+use Rattle.search.proofs.Sought.{sought}
+use Rattle.search.specs.Find.{Accepted, Bound, back, foundIn}
+
+absent : (o : Option Bytes) → (o ≡ none) ↔ (present o ≡ false)
+absent none = ((λ e. refl), (λ e. refl))
+absent (some x) = ((λ e. let z : _≡_ {A = ℕ} 0 1 = cc in absurd (omega arith)), (λ e. let z : _≡_ {A = ℕ} 0 1 = cc in absurd (omega arith)))
+
+-- the blank blocks at the end add no table
+front-tables : (f bl : List Block) → 1 ≤ length f → All (λ (b : Block). b ≡ blank) bl → tablesOf (f ++ bl) ≡ tablesOf f
+unfolding trailOf
+front-tables f bl h z = tables-trail (f ++ bl) ∙ go f h ∙ sym (tables-trail f)
+  where
+    go : (f : List Block) → 1 ≤ length f → trailOf (f ++ bl) ≡ trailOf f
+    go [] h = absurd (omega arith)
+    go (x ∷ f) h = trail-blanks (replicate 32 0) f bl z
+
+tables-low : (bs : List Block) → T (ok bs) → All (Below (length (front bs))) (tablesOf bs)
+tables-low bs t =
+    let e = front-blanks bs in
+    let L : Lays (front bs ++ blanks bs) (readAll bs) = subst (λ (x : List Block). Lays x (readAll bs)) (sym e) (accepted-lays bs t) in
+    subst (λ (x : List Table). All (Below (length (front bs))) x)
+    (sym (front-tables (front bs) (blanks bs) (some-front bs t) (blank-rest bs t)) ∙ ap tablesOf e)
+    (tables-below (front bs) (blanks bs) (readAll bs) (no-blank bs) (some-front bs t) L)
+
+module _ (s : Bytes) (n used : ℕ) (A : Accepted s n used) where
+  all-ok : T (ok (storeBlocks s))
+  all-ok = subst (λ (m : ℕ). T (ok (blocksOf m s))) (A .count) (okAll s n used (passed s n used A))
+
+  -- what the search back finds
+  pub found-is : (r b i : ℕ) → Bound s used r b → r ≤ last (storeHistory s) → i < 32 → back (blocksOf n s) i b ≡ foundIn s r i
+  found-is r b i G h g =
+      let P = passed s n used A in
+      let e : n ≡ length s / 512 = A .count in
+      let h' : r ≤ length (historyOf n s) = subst (λ (m : ℕ). r ≤ length (historyOf m s)) (sym e) h in
+      let x : back (blocksOf n s) i b .block ≡ blockUsed s r i = sought s n used r b i P G h' g ∙ ap (λ (m : ℕ). getD (getD (tablesOf (blocksOf m s)) r []) i 0) e in
+      let y : back (blocksOf n s) i b .revision ≡ namer (storeHistory s) r i = named-last s n used r b i P G h' g ∙ ap (λ (m : ℕ). namer (historyOf m s) r i) e in
+      λ j. record { block = x j; revision = y j }
+
+  -- THE STATEMENTS: a sheet uses a block of the store
+  pub block-used : (r i : ℕ) → blockUsed s r i < usedOf s
+  block-used r i =
+      let bs = storeBlocks s in
+      All-getD (λ (p : ℕ). p < usedOf s) (getD (tablesOf bs) r []) i 0 (All-getD (Below (usedOf s)) (tablesOf bs) r [] (tables-low bs all-ok) tt) (omega (arith, some-front bs all-ok))
+
+  pub block-inside : (r i : ℕ) → (blockUsed s r i < blockCount s) × (512 * blockUsed s r i + 512 ≤ length s)
+  block-inside r i =
+      let P = passed s n used A in
+      let e : n ≡ length s / 512 = A .count in
+      let u : used ≡ usedOf s = A .inUse in
+      let b : blockUsed s r i < blockCount s = omega (arith, block-used r i, used-high s n used P) in
+      (b, omega (arith, P .whole))
+
+  module _ (r i : ℕ) (h : r ≤ last (storeHistory s)) where
+    table-tree : map (slot (bytesAt (storeBlocks s))) (getD (tablesOf (storeBlocks s)) r []) ≡ tree (storeHistory s) r
+    unfolding historyOf
+    table-tree =
+        ap (λ (x : List Table). map (slot (bytesAt (storeBlocks s))) (getD x r [])) (tables-trail (storeBlocks s)) ∙ tables-trees (storeBlocks s) all-ok r h
+
+    -- it is 0 exactly where the tree lacks the sheet
+    pub block-lacks : (blockUsed s r i ≡ 0) ↔ (present (sheet (storeHistory s) r i) ≡ false)
+    block-lacks =
+        let w = absent-iff (bytesAt (storeBlocks s)) (getD (tablesOf (storeBlocks s)) r []) (tree (storeHistory s) r) table-tree i in
+        let v = absent (sheet (storeHistory s) r i) in
+        ((λ e. v .0 (w .0 e)), (λ e. w .1 (v .1 e)))
+
+    -- and else it holds the sheet's bytes
+    pub block-holds : (blockUsed s r i ≡ 0 → ⊥) → sheet (storeHistory s) r i ≡ some (bytesAt (storeBlocks s) (blockUsed s r i))
+    block-holds z = has (bytesAt (storeBlocks s)) (getD (tablesOf (storeBlocks s)) r []) (tree (storeHistory s) r) table-tree i z

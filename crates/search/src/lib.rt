@@ -1,0 +1,87 @@
+// Where a sheet of any revision stands in an accepted store, and what a commit did to a sheet. Inner functions: each asks for a store that `store::open` accepts.
+use model::Span;
+ghost use Prim.Native.Nat.{_<_, _≤_};
+ghost use mathlib.Core.Path.{_≡_};
+ghost use Rattle.model.specs.History.{last};
+ghost use Rattle.model.specs.Store.{blockCount, blocksOf, storeHistory};
+ghost use Rattle.search.specs.Find.{Accepted, Bound, Spanned, back, foundIn};
+
+// What the last commit that names a sheet says of it: the block that the sheet uses since, 0 for a delete, and the commit's revision. Both are 0 where none names it.
+pub struct Found {
+    pub block: usize,
+    pub revision: usize,
+}
+
+// The first block after commit r, or after the label where r is 0: the interval is halved, since the revisions that blocks state rise.
+fn bound(store: &[u8], n: usize, used: usize, r: usize) -> usize
+    requires { ⌜ Accepted (now store) n used ⌝ }
+    ensures { λ x. ⌜ Bound (now (store .entry)) used r x ⌝ }
+{
+    let mut lo: usize = 1;
+    let mut hi = used;
+    while lo < hi {
+        let mid = (lo + hi) / 2;
+        let a = mid * 512;
+        let e = a + 512;
+        if shape::two_at(&store[a..e], 4) as usize <= r {
+            lo = mid + 1;
+            continue;
+        }
+        hi = mid;
+    }
+    lo
+}
+
+// The newest change of sheet i in the commits before block `end`.
+fn find(store: &[u8], n: usize, used: usize, end: usize, i: usize) -> Found
+    requires { ⌜ Accepted (now store) n used × (end ≤ n) ⌝ }
+    ensures { λ x. ⌜ x ≡ back (blocksOf n (now (store .entry))) i end ⌝ }
+{
+    let mut found = Found {
+        block: 0,
+        revision: 0,
+    };
+    let mut p = end;
+    'search: while 0 < p {
+        p -= 1;
+        let a = p * 512;
+        let e = a + 512;
+        let b = &store[a..e];
+        if shape::kind(b) != 3 {
+            continue;
+        }
+        let revision = shape::two_at(b, 4) as usize;
+        let m = shape::two_at(b, 2) as usize;
+        let mut j: usize = 0;
+        'changes: while j < m {
+            let o = 16 + 8 * j;
+            if b[o] as usize == i {
+                let block = shape::two_at(b, o + 2) as usize;
+                found = Found { block, revision };
+                break 'search;
+            }
+            j += 1;
+        }
+    }
+    found
+}
+
+// The block that sheet i of tree r uses, and the last commit up to r that names the sheet.
+pub fn look_up(store: &[u8], n: usize, used: usize, r: usize, i: usize) -> Found
+    requires { ⌜ Accepted (now store) n used × (r ≤ last (storeHistory (now store))) × (i < 32) ⌝ }
+    ensures { λ x. ⌜ x ≡ foundIn (now (store .entry)) r i ⌝ }
+{
+    let end = bound(store, n, used, r);
+    find(store, n, used, end, i)
+}
+
+// The place of the bytes that block p holds.
+pub fn span_at(store: &[u8], p: usize) -> Span
+    requires { ⌜ p < blockCount (now store) ⌝ }
+    ensures { λ x. ⌜ Spanned (now (store .entry)) p x ⌝ }
+{
+    let a = p * 512;
+    let e = a + 512;
+    let len = shape::size(&store[a..e]);
+    Span { start: a + 16, len }
+}

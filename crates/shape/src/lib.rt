@@ -1,0 +1,262 @@
+// One store block of 512 bytes: its shape by its first byte, the counts over the changes of a commit block, the bytes that two blocks hold, and the next row of the
+// table of block numbers. Inner functions: each states what it asks, and its answer by one equation.
+ghost use Prim.Native.Nat.{_*_, _+_, _-_, _<_, _≤_, ℕ};
+ghost use mathlib.Core.Path.{_≡_};
+ghost use lib.Dec.{eqb};
+ghost use lib.ListN.{drop, getD, length};
+ghost use Rattle.block.specs.Field.{twoAt};
+ghost use Rattle.block.specs.Lists.{allFrom, same};
+ghost use Rattle.model.specs.Blocks.{fieldsOf, fitsBlock, held, parse, parseLines};
+ghost use Rattle.model.specs.Codec.{shaped};
+ghost use Rattle.model.specs.Layout.{named, pointed};
+ghost use Rattle.model.specs.Pass.{grown, noneTwice};
+ghost use Rattle.shape.specs.Lines.{left};
+ghost use Rattle.shape.specs.Rows.{Growable, rowsOf};
+ghost use Rattle.shape.specs.Shape.{kindOf, linesOk};
+
+// Whether the bytes from `from` to `to` are all zero.
+fn zeros(s: &[u8], from: usize, to: usize) -> bool
+    requires { ⌜ (from ≤ to) × (to ≤ length (now s)) ⌝ }
+    ensures { λ r. ⌜ r ≡ allFrom (λ (i : ℕ). eqb (getD (now (s .entry)) i 0) 0) from (to - from) ⌝ }
+{
+    let mut i = from;
+    while i < to {
+        if s[i] != 0 {
+            return false;
+        }
+        i += 1;
+    }
+    true
+}
+
+// The two-byte field at i.
+pub fn two_at(s: &[u8], i: usize) -> u32
+    ensures { λ r. ⌜ (r ≡ twoAt (now (s .entry)) i) × (r < 65536) ⌝ }
+{
+    block::get16(s, i) as u32
+}
+
+// Whether a block whose first byte is 2 has the shape of a content block.
+fn content_shape(s: &[u8]) -> bool
+    requires { ⌜ (length (now s) ≡ 512) × (getD (now s) 0 0 ≡ 2) ⌝ }
+    ensures { λ r. ⌜ r ≡ shaped fieldsOf parse fitsBlock (now (s .entry)) ⌝ }
+{
+    if s[1] != 0 {
+        return false;
+    }
+    let n = two_at(s, 2) as usize;
+    if 480 < n {
+        return false;
+    }
+    if !zeros(s, 6, 16) {
+        return false;
+    }
+    if !zeros(s, 16 + n, 508) {
+        return false;
+    }
+    true
+}
+
+// Whether each of the m changes has an action 1 to 4 and a zero in its byte 5.
+fn lines_shape(s: &[u8], m: usize) -> bool
+    requires { ⌜ (length (now s) ≡ 512) × (m ≤ 32) ⌝ }
+    ensures { λ r. ⌜ r ≡ linesOk m (drop 16 (now (s .entry))) ⌝ }
+{
+    let mut j: usize = 0;
+    while j < m {
+        let at = 16 + 8 * j;
+        if s[at + 1] < 1 {
+            return false;
+        }
+        if 4 < s[at + 1] {
+            return false;
+        }
+        if s[at + 5] != 0 {
+            return false;
+        }
+        j += 1;
+    }
+    true
+}
+
+// Whether a block whose first byte is 3 has the shape of a commit block.
+fn commit_shape(s: &[u8]) -> bool
+    requires { ⌜ (length (now s) ≡ 512) × (getD (now s) 0 0 ≡ 3) ⌝ }
+    ensures { λ r. ⌜ r ≡ shaped fieldsOf parse fitsBlock (now (s .entry)) ⌝ }
+{
+    if s[1] != 0 {
+        return false;
+    }
+    let m = two_at(s, 2) as usize;
+    if 32 < m {
+        return false;
+    }
+    if s[7] != 0 {
+        return false;
+    }
+    if !zeros(s, 12, 16) {
+        return false;
+    }
+    if !lines_shape(s, m) {
+        return false;
+    }
+    zeros(s, 16 + 8 * m, 508)
+}
+
+// Whether a block whose first byte is 1 has the shape of the label.
+fn label_shape(s: &[u8]) -> bool
+    requires { ⌜ (length (now s) ≡ 512) × (getD (now s) 0 0 ≡ 1) ⌝ }
+    ensures { λ r. ⌜ r ≡ shaped fieldsOf parse fitsBlock (now (s .entry)) ⌝ }
+{
+    if s[1] != 1 {
+        return false;
+    }
+    zeros(s, 2, 508)
+}
+
+// Whether a block has the shape of what its first byte says.
+pub fn shape(s: &[u8]) -> bool
+    requires { ⌜ length (now s) ≡ 512 ⌝ }
+    ensures { λ r. ⌜ r ≡ shaped fieldsOf parse fitsBlock (now (s .entry)) ⌝ }
+{
+    if s[0] == 1 {
+        return label_shape(s);
+    }
+    if s[0] == 2 {
+        return content_shape(s);
+    }
+    if s[0] == 3 {
+        return commit_shape(s);
+    }
+    zeros(s, 0, 508)
+}
+
+// What a block is by its first byte: 1 label, 2 content, 3 commit, and 0 for any other.
+pub fn kind(s: &[u8]) -> u8
+    requires { ⌜ length (now s) ≡ 512 ⌝ }
+    ensures { λ r. ⌜ r ≡ kindOf (parse (now (s .entry))) ⌝ }
+{
+    let k = s[0];
+    if 3 < k {
+        return 0;
+    }
+    k
+}
+
+// How many of the m changes from byte `base` on point to block p.
+fn pointers(s: &[u8], base: usize, m: usize, p: u32) -> u32
+    requires { ⌜ (base + 8 * m ≤ length (now s)) × (m ≤ 32) ⌝ }
+    ensures { λ r. ⌜ r ≡ pointed p (parseLines m (drop base (now (s .entry)))) ⌝ }
+{
+    let mut n: u32 = 0;
+    let mut j: usize = 0;
+    while j < m {
+        if two_at(s, base + 8 * j + 2) == p {
+            n += 1;
+        }
+        j += 1;
+    }
+    n
+}
+
+// How many of the m changes from byte `base` on, without the first `from`, name the sheet i.
+fn names(s: &[u8], base: usize, m: usize, from: usize, i: u8) -> u32
+    requires { ⌜ (base + 8 * m ≤ length (now s)) × (m ≤ 32) × (from ≤ m) ⌝ }
+    ensures { λ r. ⌜ r ≡ named i (left (now (s .entry)) base m from) ⌝ }
+{
+    let mut n: u32 = 0;
+    let mut j = from;
+    while j < m {
+        if s[base + 8 * j] == i {
+            n += 1;
+        }
+        j += 1;
+    }
+    n
+}
+
+// Whether no sheet stands twice in the m changes from byte `base` on.
+pub fn none_twice(s: &[u8], base: usize, m: usize) -> bool
+    requires { ⌜ (base + 8 * m ≤ length (now s)) × (m ≤ 32) ⌝ }
+    ensures { λ r. ⌜ r ≡ noneTwice (parseLines m (drop base (now (s .entry)))) ⌝ }
+{
+    let mut j: usize = 0;
+    while j < m {
+        let i = s[base + 8 * j];
+        if names(s, base, m, j + 1, i) != 0 {
+            return false;
+        }
+        j += 1;
+    }
+    true
+}
+
+// Whether each of the k blocks from block `at` on is pointed to by just one of the m changes.
+pub fn one_each(s: &[u8], base: usize, m: usize, at: usize, k: usize) -> bool
+    requires { ⌜ (base + 8 * m ≤ length (now s)) × (m ≤ 32) × (at + k ≤ 4096) ⌝ }
+    ensures { λ r. ⌜ r ≡ allFrom (λ (p : ℕ). eqb (pointed p (parseLines m (drop base (now (s .entry))))) 1) at k ⌝ }
+{
+    let mut i: usize = 0;
+    while i < k {
+        if pointers(s, base, m, (at + i) as u32) != 1 {
+            return false;
+        }
+        i += 1;
+    }
+    true
+}
+
+// How many bytes a block holds: a content block its length, any other none.
+pub fn size(s: &[u8]) -> usize
+    requires { ⌜ length (now s) ≡ 512 ⌝ }
+    ensures { λ r. ⌜ (r ≡ length (held (parse (now (s .entry))))) × (r ≤ 496) ⌝ }
+{
+    if s[0] != 2 {
+        return 0;
+    }
+    let n = two_at(s, 2) as usize;
+    if 496 < n {
+        return 496;
+    }
+    n
+}
+
+// Whether two blocks hold the same bytes.
+pub fn same_held<'a>(s: &'a [u8], t: &'a [u8]) -> bool
+    requires { ⌜ (length (now s) ≡ 512) × (length (now t) ≡ 512) ⌝ }
+    ensures { λ r. ⌜ r ≡ same (held (parse (now (s .entry)))) (held (parse (now (t .entry)))) ⌝ }
+{
+    let n = size(s);
+    if size(t) != n {
+        return false;
+    }
+    let mut i: usize = 0;
+    while i < n {
+        if s[16 + i] != t[16 + i] {
+            return false;
+        }
+        i += 1;
+    }
+    true
+}
+
+// The row of tree r, from the row of tree r - 1 and the m changes from byte `base` on.
+pub fn grow(tab: &mut [u16], r: usize, s: &[u8], base: usize, m: usize)
+    requires { ⌜ Growable (now tab) r (now s) base m ⌝ }
+    ensures { λ x. ⌜ rowsOf (r + 1) (now (tab .exit)) ≡ grown (rowsOf r (now (tab .entry))) (parseLines m (drop base (now (s .entry)))) ⌝ }
+{
+    let to = 32 * r;
+    let mut i: usize = 0;
+    'copy: while i < 32 {
+        tab[to + i] = tab[to + i - 32];
+        i += 1;
+    }
+    let mut j: usize = 0;
+    'put: while j < m {
+        let at = base + 8 * j;
+        let sheet = s[at] as usize;
+        let block = two_at(s, at + 2) as u16;
+        tab[to + sheet] = block;
+        j += 1;
+    }
+}

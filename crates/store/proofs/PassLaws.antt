@@ -1,0 +1,250 @@
+-- The forward pass, one law for each way through a turn.
+-- Assumes nothing.
+use Prim.Native.Nat.{_+_, _-_, _<_, _≤_, suc, ℕ}
+use mathlib.Core.Bool.{Bool, _&&_, cond, false, true}
+use mathlib.Core.List.{List, [], _∷_}
+use mathlib.Core.Logic.{inl, inr}
+use mathlib.Core.Path.{_∙_, _≡_, ap, ap₂, refl, sym}
+use native.Mathlib.Numerals.{add-one}
+use native.Mathlib.Omega.{arith}
+use borrow.Author.Tests.{eq-eqb, ne-eqb}
+use lib.Dec.{eqb}
+use lib.ListN.{drop, drop-of-length-le, getD, length, length-append, replicate, take}
+use lib.Seq.{drop-cons}
+use Rattle.block.proofs.Says.{eq-or}
+use Rattle.block.specs.Field.{fourAt, twoAt}
+use Rattle.block.specs.Lists.{all}
+use Rattle.model.specs.Blocks.{Block, Line, blank, bytesAt, commit, content, label, parse, parseLines}
+use Rattle.model.specs.Layout.{Table, latest, next}
+use Rattle.model.specs.Pass.{grown, isBlank, laid, okFrom, readFrom}
+use Rattle.model.specs.Store.{blocksOf, front}
+use Rattle.model.specs.declared.Refusal.the-variants.{StoreLayout}
+use Rattle.shape.specs.Rows.{rowsOf}
+use Rattle.shape.specs.Shape.{kindOf}
+use Rattle.store.proofs.Blocks.{block-at, length-blocks, lent}
+use Rattle.store.proofs.RuleLaws.{length-rows}
+use Rattle.store.specs.Opened.{endingBy, passed, passedAll}
+use Rattle.store.specs.declared.Header.{Header}
+use Rattle.store.specs.declared.Opened.the-variants.{Open, Refused}
+use Rattle.store.specs.declared.Spot.{Spot}
+
+-- BLOCK AFTER BLOCK
+
+pub rest-step : (n : ℕ) (s : List ℕ) (pos : ℕ) → pos < n → drop pos (blocksOf n s) ≡ parse (lent s pos) ∷ drop (pos + 1) (blocksOf n s)
+rest-step n s pos h =
+    drop-cons (blocksOf n s) pos blank (omega (arith, length-blocks n s))
+    ∙ ap₂ (λ (b : Block) (x : ℕ). b ∷ drop x (blocksOf n s)) (block-at n pos s h) (sym (add-one pos))
+
+pub rest-none : (n : ℕ) (s : List ℕ) (pos : ℕ) → n ≤ pos → drop pos (blocksOf n s) ≡ []
+rest-none n s pos h = drop-of-length-le (blocksOf n s) {i = pos} (omega (arith, length-blocks n s))
+
+-- WHAT A BLOCK IS, BY ITS KIND
+
+module _ (C M : Block) (c : kindOf C ≡ 2) (m : kindOf M ≡ 3) where
+  abbrev picked : Bool → Bool → Bool → Block
+  picked x y z = cond x label (cond y C (cond z M blank))
+
+  is-label : (x y z : Bool) → kindOf (picked x y z) ≡ 1 → picked x y z ≡ label
+  is-label true y z e = refl
+  is-label false true z e = absurd (omega arith)
+  is-label false false true e = absurd (omega arith)
+  is-label false false false e = absurd (omega arith)
+
+  is-content : (x y z : Bool) → kindOf (picked x y z) ≡ 2 → picked x y z ≡ C
+  is-content true y z e = absurd (omega arith)
+  is-content false true z e = refl
+  is-content false false true e = absurd (omega arith)
+  is-content false false false e = absurd (omega arith)
+
+  is-commit : (x y z : Bool) → kindOf (picked x y z) ≡ 3 → picked x y z ≡ M
+  is-commit true y z e = absurd (omega arith)
+  is-commit false true z e = absurd (omega arith)
+  is-commit false false true e = refl
+  is-commit false false false e = absurd (omega arith)
+
+  is-blank : (x y z : Bool) → kindOf (picked x y z) ≡ 0 → picked x y z ≡ blank
+  is-blank true y z e = absurd (omega arith)
+  is-blank false true z e = absurd (omega arith)
+  is-blank false false true e = absurd (omega arith)
+  is-blank false false false e = refl
+
+  kind-low : (x y z : Bool) → kindOf (picked x y z) ≤ 3
+  kind-low true y z = omega arith
+  kind-low false true z = omega (arith, c)
+  kind-low false false true = omega (arith, m)
+  kind-low false false false = omega arith
+
+abbrev pub contentOf : List ℕ → Block
+contentOf l = content (twoAt l 4) (take (twoAt l 2) (drop 16 l))
+
+abbrev pub commitOf : List ℕ → Block
+commitOf l = commit (twoAt l 4) (getD l 6 0) (fourAt l 8) (parseLines (twoAt l 2) (drop 16 l))
+
+module _ (l : List ℕ) where
+  pub parse-label : kindOf (parse l) ≡ 1 → parse l ≡ label
+  unfolding parse
+  parse-label e = is-label (contentOf l) (commitOf l) refl refl (eqb (getD l 0 0) 1) (eqb (getD l 0 0) 2) (eqb (getD l 0 0) 3) e
+
+  pub parse-content : kindOf (parse l) ≡ 2 → parse l ≡ contentOf l
+  unfolding parse
+  parse-content e = is-content (contentOf l) (commitOf l) refl refl (eqb (getD l 0 0) 1) (eqb (getD l 0 0) 2) (eqb (getD l 0 0) 3) e
+
+  pub parse-commit : kindOf (parse l) ≡ 3 → parse l ≡ commitOf l
+  unfolding parse
+  parse-commit e = is-commit (contentOf l) (commitOf l) refl refl (eqb (getD l 0 0) 1) (eqb (getD l 0 0) 2) (eqb (getD l 0 0) 3) e
+
+  pub parse-blank : kindOf (parse l) ≡ 0 → parse l ≡ blank
+  unfolding parse
+  parse-blank e = is-blank (contentOf l) (commitOf l) refl refl (eqb (getD l 0 0) 1) (eqb (getD l 0 0) 2) (eqb (getD l 0 0) 3) e
+
+  pub parse-low : kindOf (parse l) ≤ 3
+  unfolding parse
+  parse-low = kind-low (contentOf l) (commitOf l) refl refl (eqb (getD l 0 0) 1) (eqb (getD l 0 0) 2) (eqb (getD l 0 0) 3)
+
+pub blank-is : (b : Block) → isBlank b ≡ eqb (kindOf b) 0
+blank-is label = refl
+blank-is (content r b) = refl
+blank-is (commit r s t ls) = refl
+blank-is blank = refl
+
+-- THE PASS
+
+module _ (look : ℕ → List ℕ) (at k : ℕ) (tables : List Table) (bs : List Block) where
+  pub passed-label : passed look at k tables (label ∷ bs) ≡ Refused StoreLayout
+  unfolding passed okFrom
+  passed-label = refl
+
+  pub passed-content : (r : ℕ) (b : List ℕ) → r ≡ length tables → passed look at k tables (content r b ∷ bs) ≡ passed look at (k + 1) tables bs
+  unfolding passed okFrom readFrom
+  passed-content r b e =
+      let u : at + k + suc (length (front bs)) ≡ at + (k + 1) + length (front bs) = omega arith in
+      rw (eq-eqb r (length tables) e, u, add-one k)
+
+  pub passed-elsewhere : (r : ℕ) (b : List ℕ) → (r ≡ length tables → ⊥) → passed look at k tables (content r b ∷ bs) ≡ Refused StoreLayout
+  unfolding passed okFrom
+  passed-elsewhere r b n = rw (ne-eqb r (length tables) n)
+
+  module _ (r seat stamp : ℕ) (ls : List Line) where
+    pub passed-other : (r ≡ length tables → ⊥) → passed look at k tables (commit r seat stamp ls ∷ bs) ≡ Refused StoreLayout
+    unfolding passed okFrom
+    passed-other n = rw (ne-eqb r (length tables) n)
+
+    pub passed-unlaid : r ≡ length tables → laid look at k tables seat ls ≡ false → passed look at k tables (commit r seat stamp ls ∷ bs) ≡ Refused StoreLayout
+    unfolding passed okFrom
+    passed-unlaid e f = rw (eq-eqb r (length tables) e, f)
+
+    pub passed-commit : r ≡ length tables → 1 ≤ length tables → laid look at k tables seat ls ≡ true
+        → passed look at k tables (commit r seat stamp ls ∷ bs) ≡ passed look (at + k + 1) 0 (grown tables ls) bs
+    unfolding passed okFrom readFrom
+    passed-commit e some t =
+        let g : length (grown tables ls) ≡ length tables + 1 = length-append tables (next ls (latest tables) ∷ []) in
+        let v : length tables - 1 + suc (length (readFrom look bs)) ≡ length (grown tables ls) - 1 + length (readFrom look bs) = omega arith in
+        let u : at + k + suc (length (front bs)) ≡ at + k + 1 + 0 + length (front bs) = omega arith in
+        rw (eq-eqb r (length tables) e, t, u, v, add-one (at + k))
+
+and-yes : (b : Bool) → (b && true) ≡ b
+and-yes true = refl
+and-yes false = refl
+
+module _ (look : ℕ → List ℕ) (w : Spot) (tables : List Table) (e : length tables ≡ w .last + 1) where
+  header-end : _≡_ {A = Header} (record { last = length tables - 1 + 0; used = w .at + w .k + 0 }) (record { last = w .last; used = w .at + w .k })
+  header-end = let d : length tables - 1 + 0 ≡ w .last = omega arith in let f : w .at + w .k + 0 ≡ w .at + w .k = omega arith in rw (d, f)
+
+  -- nothing is left, or a blank block comes
+  pub passed-end : passed look (w .at) (w .k) tables [] ≡ endingBy w (all isBlank [])
+  unfolding endingBy passed okFrom readFrom
+  passed-end = ap₂ (λ (x : Bool) (y : Header). cond x (Open y) (Refused StoreLayout)) (sym (and-yes (eqb (w .k) 0))) header-end
+
+  pub passed-blank : (bs : List Block) → passed look (w .at) (w .k) tables (blank ∷ bs) ≡ endingBy w (all isBlank (blank ∷ bs))
+  unfolding endingBy passed okFrom readFrom
+  passed-blank bs = ap (λ (y : Header). cond (eqb (w .k) 0 && all isBlank bs) (Open y) (Refused StoreLayout)) header-end
+
+-- BLANK BLOCKS
+
+pub blanks-step : (n : ℕ) (s : List ℕ) (p : ℕ) → p < n
+    → all isBlank (drop p (blocksOf n s)) ≡ (eqb (kindOf (parse (lent s p))) 0 && all isBlank (drop (p + 1) (blocksOf n s)))
+blanks-step n s p h =
+    ap (all isBlank) (rest-step n s p h) ∙ ap (λ (x : Bool). x && all isBlank (drop (p + 1) (blocksOf n s))) (blank-is (parse (lent s p)))
+
+pub blanks-none : (n : ℕ) (s : List ℕ) (p : ℕ) → n ≤ p → all isBlank (drop p (blocksOf n s)) ≡ true
+blanks-none n s p h = ap (all isBlank) (rest-none n s p h)
+
+-- A TURN
+
+module _ (look : ℕ → List ℕ) (n : ℕ) (s : List ℕ) (at k last : ℕ) (tab : List ℕ) where
+  abbrev here : Spot
+  here = record { n = n; last = last; at = at; k = k }
+
+  rows-here : length (rowsOf (last + 1) tab) ≡ last + 1
+  rows-here = length-rows (last + 1) tab
+
+  pub turn-end : n ≤ at + k → passed look at k (rowsOf (last + 1) tab) (drop (at + k) (blocksOf n s)) ≡ endingBy here (all isBlank (drop (at + k) (blocksOf n s)))
+  turn-end h =
+      ap (passed look at k (rowsOf (last + 1) tab)) (rest-none n s (at + k) h)
+      ∙ passed-end look here (rowsOf (last + 1) tab) rows-here
+      ∙ ap (λ (y : List Block). endingBy here (all isBlank y)) (sym (rest-none n s (at + k) h))
+
+  module _ (h : at + k < n) where
+    step : (b : Block) → parse (lent s (at + k)) ≡ b → passed look at k (rowsOf (last + 1) tab) (drop (at + k) (blocksOf n s)) ≡ passed look at k (rowsOf (last + 1) tab) (b ∷ drop (at + k + 1) (blocksOf n s))
+    step b e = ap (passed look at k (rowsOf (last + 1) tab)) (rest-step n s (at + k) h ∙ ap (λ (x : Block). x ∷ drop (at + k + 1) (blocksOf n s)) e)
+
+    pub turn-blank : kindOf (parse (lent s (at + k))) ≡ 0
+        → passed look at k (rowsOf (last + 1) tab) (drop (at + k) (blocksOf n s)) ≡ endingBy here (all isBlank (drop (at + k) (blocksOf n s)))
+    turn-blank e =
+        let p = parse-blank (lent s (at + k)) e in
+        step blank p ∙ passed-blank look here (rowsOf (last + 1) tab) rows-here (drop (at + k + 1) (blocksOf n s))
+        ∙ ap (λ (y : List Block). endingBy here (all isBlank y))
+        (sym (rest-step n s (at + k) h ∙ ap (λ (x : Block). x ∷ drop (at + k + 1) (blocksOf n s)) p))
+
+    pub turn-label : kindOf (parse (lent s (at + k))) ≡ 1 → passed look at k (rowsOf (last + 1) tab) (drop (at + k) (blocksOf n s)) ≡ Refused StoreLayout
+    turn-label e = step label (parse-label (lent s (at + k)) e) ∙ passed-label look at k (rowsOf (last + 1) tab) (drop (at + k + 1) (blocksOf n s))
+
+    pub turn-content : kindOf (parse (lent s (at + k))) ≡ 2 → twoAt (lent s (at + k)) 4 ≡ last + 1
+        → passed look at k (rowsOf (last + 1) tab) (drop (at + k) (blocksOf n s)) ≡ passed look at (k + 1) (rowsOf (last + 1) tab) (drop (at + (k + 1)) (blocksOf n s))
+    turn-content e q =
+        let x = lent s (at + k) in
+        let d : at + k + 1 ≡ at + (k + 1) = omega arith in
+        step (contentOf x) (parse-content x e)
+        ∙ passed-content look at k (rowsOf (last + 1) tab) (drop (at + k + 1) (blocksOf n s)) (twoAt x 4) (take (twoAt x 2) (drop 16 x)) (q ∙ sym (rows-here))
+        ∙ ap (λ (y : ℕ). passed look at (k + 1) (rowsOf (last + 1) tab) (drop y (blocksOf n s))) d
+
+    -- a content or a commit block of another revision
+    pub turn-revision : (kindOf (parse (lent s (at + k))) ≡ 0 → ⊥) → (kindOf (parse (lent s (at + k))) ≡ 1 → ⊥) → (twoAt (lent s (at + k)) 4 ≡ last + 1 → ⊥)
+        → passed look at k (rowsOf (last + 1) tab) (drop (at + k) (blocksOf n s)) ≡ Refused StoreLayout
+    turn-revision n₀ n₁ q =
+        let x = lent s (at + k) in
+        let low = parse-low x in
+        elim (eq-or (kindOf (parse x)) 2) [
+          | inl e ↦ step (contentOf x) (parse-content x e)
+              ∙ passed-elsewhere look at k (rowsOf (last + 1) tab) (drop (at + k + 1) (blocksOf n s)) (twoAt x 4) (take (twoAt x 2) (drop 16 x)) (λ y. q (y ∙ rows-here))
+          | inr o ↦ step (commitOf x) (parse-commit x (omega (arith, low, n₀, n₁)))
+              ∙ passed-other look at k (rowsOf (last + 1) tab) (drop (at + k + 1) (blocksOf n s)) (twoAt x 4) (getD x 6 0) (fourAt x 8) (parseLines (twoAt x 2) (drop 16 x)) (λ y. q (y ∙ rows-here))
+        ]
+
+    module _ (e : kindOf (parse (lent s (at + k))) ≡ 3) (q : twoAt (lent s (at + k)) 4 ≡ last + 1) where
+      pub turn-unlaid : laid look at k (rowsOf (last + 1) tab) (getD (lent s (at + k)) 6 0) (parseLines (twoAt (lent s (at + k)) 2) (drop 16 (lent s (at + k)))) ≡ false
+          → passed look at k (rowsOf (last + 1) tab) (drop (at + k) (blocksOf n s)) ≡ Refused StoreLayout
+      turn-unlaid f =
+          let x = lent s (at + k) in
+          step (commitOf x) (parse-commit x e)
+          ∙ passed-unlaid look at k (rowsOf (last + 1) tab) (drop (at + k + 1) (blocksOf n s)) (twoAt x 4) (getD x 6 0) (fourAt x 8) (parseLines (twoAt x 2) (drop 16 x)) (q ∙ sym (rows-here)) f
+
+      pub turn-commit : (m : ℕ) (new : List ℕ) → m ≡ twoAt (lent s (at + k)) 2
+          → laid look at k (rowsOf (last + 1) tab) (getD (lent s (at + k)) 6 0) (parseLines (twoAt (lent s (at + k)) 2) (drop 16 (lent s (at + k)))) ≡ true
+          → rowsOf (last + 1 + 1) new ≡ grown (rowsOf (last + 1) tab) (parseLines m (drop 16 (lent s (at + k))))
+          → passed look at k (rowsOf (last + 1) tab) (drop (at + k) (blocksOf n s)) ≡ passed look (at + k + 1) 0 (rowsOf (last + 1 + 1) new) (drop (at + k + 1 + 0) (blocksOf n s))
+      turn-commit m new em t g =
+          let x = lent s (at + k) in
+          let d : at + k + 1 ≡ at + k + 1 + 0 = omega arith in
+          let lr = rows-here in
+          step (commitOf x) (parse-commit x e)
+          ∙ passed-commit look at k (rowsOf (last + 1) tab) (drop (at + k + 1) (blocksOf n s)) (twoAt x 4) (getD x 6 0) (fourAt x 8) (parseLines (twoAt x 2) (drop 16 x)) (q ∙ sym lr) (omega arith) t
+          ∙ ap₂ (λ (y : List Table) (z : ℕ). passed look (at + k + 1) 0 y (drop z (blocksOf n s)))
+          (ap (λ (y : ℕ). grown (rowsOf (last + 1) tab) (parseLines y (drop 16 x))) (sym em) ∙ sym g) d
+
+pub kind-three : (l : List ℕ) → (kindOf (parse l) ≡ 0 → ⊥) → (kindOf (parse l) ≡ 1 → ⊥) → (kindOf (parse l) ≡ 2 → ⊥) → kindOf (parse l) ≡ 3
+kind-three l n₀ n₁ n₂ = omega (arith, parse-low l)
+
+pub start-is : (n : ℕ) (s tab : List ℕ) → rowsOf 1 tab ≡ replicate 32 0 ∷ [] → passed (bytesAt (blocksOf n s)) 1 0 (rowsOf 1 tab) (drop (1 + 0) (blocksOf n s)) ≡ passedAll n s
+unfolding passedAll
+start-is n s tab e = ap (λ (x : List Table). passed (bytesAt (blocksOf n s)) 1 0 x (drop 1 (blocksOf n s))) e

@@ -1,0 +1,151 @@
+#!/usr/bin/env python3
+"""Computes the machine of crates/model by the prover on whole lists of calls, and holds it to lists made elsewhere.
+
+lists.py FILE        every list of a file of lists (one JSON object a line: n, calls, answers, used, history, entries)
+lists.py --random N [SEED]   a list of N random calls by four seats, with the answers and the end of tests/model
+
+For each list two theorems by `refl` are written to target/lists: the machine's answers are those of the list, and its
+state at the end is the list's. Then the prover checks them.
+"""
+import json, os, pathlib, random, subprocess, sys
+
+ROOT = pathlib.Path(__file__).resolve().parent.parent
+sys.path.insert(0, str(ROOT / 'tests' / 'model'))
+import sheets
+
+NAMES = dict(add='Add', edit='Edit', delete='Delete', copy='Copy', move='Move', commit='Commits', update='Update',
+             revert='Revert', read='Read', show='Show', status='Status', log='Log')
+HEAD = '''use mathlib.Core.Path.{_≡_, refl}
+use mathlib.Core.List.{List, [], _∷_}
+use lib.ListN.{replicate}
+use Rattle.model.specs.History.{tree, Change, nothing, add, change, delete, copy, Commit}
+use Rattle.model.specs.Entry.{Entry, empty, normal, added, deleted, copied}
+use Rattle.model.specs.Machine.{State, fresh}
+use Rattle.model.specs.Machine.{Add, Edit, Delete, Copy, Move, Commits, Update, Revert, Read, Show, Status, Log}
+use Rattle.model.specs.Machine.{Answer, refused, done, revision, bytes, status, logged}
+use Rattle.model.specs.Run.{Turn, run, answers}
+use Rattle.model.proofs.Play.{_does_}
+
+'''
+
+
+def cons(xs):
+    return ' ∷ '.join(list(xs) + ['[]'])
+
+
+def data(b):
+    if len(b) > 20 and len(set(b)) == 1:
+        return f'(replicate {len(b)} {b[0]})'
+    return f'({cons(map(str, b))})' if b else '[]'
+
+
+def call(name, seat, *args):
+    return f'{seat} does {NAMES[name]} ' + ' '.join(data(x) if isinstance(x, bytes) else str(x) for x in args)
+
+
+def answer(a):
+    if a[0] == 'log':
+        action, source = a[4] or (0, None)
+        return 'logged ' + ' '.join(map(str, (*a[1:4], action, *(source or (0, 0)))))
+    if a[0] == 'bytes':
+        return f'bytes {data(a[1])}'
+    return {'done': 'done', 'no': 'refused', 'revision': 'revision', 'status': 'status'}[a[0]] + ''.join(f' {x}' for x in a[1:])
+
+
+def change(c):
+    if c is None:
+        return 'nothing'
+    action, b, source = c
+    return {1: 'add', 2: 'change', 3: 'delete', 4: 'copy'}[action] + ''.join(f' {x}' for x in source or ()) + (f' {data(b)}' if action != 3 else '')
+
+
+def entry(e):
+    return {
+        'empty': lambda: 'empty',
+        'normal': lambda: f'normal {e[1]} {data(e[2])}',
+        'added': lambda: f'added {data(e[1])}',
+        'deleted': lambda: f'deleted {e[1]}',
+        'copied': lambda: f'copied {e[1][0]} {e[1][1]} {data(e[2])}',
+    }[e[0]]()
+
+
+def theorems(n, calls, answers, used, history, seats):
+    commits = cons(f'record {{ seat = {seat}; stamp = {stamp}; changes = {cons(change(cs.get(i)) for i in range(32))} }}' for seat, stamp, cs in history)
+    rows = cons(f'({cons(map(entry, seats[k]))})' for k in (1, 2, 3, 4))
+    return (HEAD + f'abbrev calls : List Turn\ncalls = {cons(call(*c) for c in calls)}\n\n'
+            f'said : answers (fresh {n}) calls ≡ {cons(map(answer, answers))}\nunfolding tree\nsaid = refl\n\n'
+            f'left : run (fresh {n}) calls ≡ record {{ blocks = {n}; used = {used}; history = {commits}; seats = {rows} }}\nunfolding tree\nleft = refl\n')
+
+
+def from_json(l):
+    """A list of the file, in the model's terms."""
+    def args(c):
+        seat, rest = (1, c[1:]) if c[0] in ('read', 'log') else (c[1], c[2:])
+        return (c[0], seat, *(bytes.fromhex(x) if isinstance(x, str) else x for x in rest))
+
+    def said(a):
+        return (a[0], bytes.fromhex(a[1])) if a[0] == 'bytes' else tuple(a)
+
+    def change_of(x):
+        return (x['action'], bytes.fromhex(x['data'] or ''), x['source'])
+
+    def entry_of(e):
+        b = bytes.fromhex(e['data'])
+        return [('empty',), ('normal', e['base'], b), ('added', b), ('deleted', e['base']), ('copied', e['source'], b)][e['state']]
+
+    history = [(c['seat'], c['stamp'], {int(i): change_of(x) for i, x in c['changes'].items()}) for c in l['history']]
+    seats = {k: [entry_of(e) for e in l['entries'][str(k)]] for k in (1, 2, 3, 4)}
+    return l['n'], [args(c) for c in l['calls']], [said(a) for a in l['answers']], l['used'], history, seats
+
+
+def random_call(rng, m):
+    name = rng.choice(list(NAMES) + ['add', 'edit', 'commit', 'commit', 'update'])
+    sheet = lambda: rng.choice([0, 1, 2, 3, 5, 7, 31, 31, rng.randrange(34)])
+    mask = lambda: rng.choice([0xffffffff, rng.getrandbits(32), 1 << sheet() % 32, 0])
+    revision = lambda: rng.choice([m.last(), rng.randint(0, m.last() + 1)])
+    content = lambda: bytes(rng.getrandbits(8) for _ in range(rng.choice([0, 1, 1, 2, 3]))) if rng.random() < 0.97 else b'\7' * rng.choice([480, 481])
+    args = {'add': lambda: (sheet(), content()), 'edit': lambda: (sheet(), content()), 'delete': lambda: (sheet(),),
+            'copy': lambda: (sheet(), sheet()), 'move': lambda: (sheet(), sheet()), 'commit': lambda: (rng.getrandbits(32), mask()),
+            'update': lambda: (mask(), revision()), 'revert': lambda: (mask(),), 'read': lambda: (revision(), sheet()),
+            'show': lambda: (sheet(),), 'status': lambda: (sheet(),), 'log': lambda: (revision(), sheet())}
+    return (name, rng.randint(1, 4), *args[name]())
+
+
+def random_list(count, seed):
+    rng = random.Random(seed)
+    m = sheets.Machine(4096)
+    calls, answers = [], []
+    for _ in range(count):
+        c = random_call(rng, m)
+        calls.append(c)
+        answers.append(m.call(*c))
+    return 4096, calls, answers, m.used, m.history, m.seats
+
+
+def main():
+    if len(sys.argv) >= 3 and sys.argv[1] == '--random':
+        lists = [random_list(int(sys.argv[2]), int(sys.argv[3]) if len(sys.argv) > 3 else 1)]
+    elif len(sys.argv) == 2:
+        lists = [from_json(json.loads(line)) for line in open(sys.argv[1])]
+    else:
+        sys.exit(__doc__)
+    repo = ROOT / 'target' / 'lists'
+    crate = repo / 'crates' / 'lists'
+    subprocess.run(['rm', '-rf', str(crate)])
+    for folder in ('src', 'specs', 'proofs'):
+        (crate / folder).mkdir(parents=True)
+    for name in ('block', 'model'):
+        subprocess.run(['cp', '-rT', str(ROOT / 'crates' / name), str(repo / 'crates' / name)], check=True)
+    (repo / 'crates.txt').write_text('block:\nmodel: block\nlists: block model\n')
+    (crate / 'src' / 'lib.rt').write_text('// Lists of calls, computed: see proofs/.\n')
+    (crate / 'specs' / 'Lib.antt').write_text('')
+    (crate / 'proofs' / 'Lib.antt').write_text(''.join(f'pub mod List{i}\n' for i in range(len(lists))))
+    for i, l in enumerate(lists):
+        (crate / 'proofs' / f'List{i}.antt').write_text(theorems(*l))
+    done = subprocess.run(['rt', 'check', 'lists'], cwd=repo, env=dict(os.environ, RT_CUT='300'))
+    print(f'{len(lists)} lists, {sum(len(l[1]) for l in lists)} calls: ' + ('all as computed' if done.returncode == 0 else 'DIFFERENT'))
+    sys.exit(done.returncode)
+
+
+if __name__ == '__main__':
+    main()

@@ -1,0 +1,201 @@
+"""A model of document 01 in plain data, made apart from the engine: no buffers, no blocks, nothing shared with the crates.
+
+A tree is a dict from sheet to bytes. A change is (action, bytes, source); a commit is (seat, stamp, {sheet: change}).
+An entry is ('empty',), ('normal', base, bytes), ('added', bytes), ('deleted', base) or ('copied', (sheet, revision), bytes).
+An answer is ('no', number), ('done',), ('revision', R), ('bytes', bytes), ('status', number) or
+('log', seat, stamp, m, change or None), where the change is (action, source or None).
+"""
+
+ADD, CHANGE, DELETE, COPY = 1, 2, 3, 4
+EMPTY = ('empty',)
+
+
+class Machine:
+    def __init__(self, blocks):
+        self.blocks = blocks
+        self.used = 1
+        self.history = []
+        self.seats = {seat: [EMPTY] * 32 for seat in (1, 2, 3, 4)}
+
+    # ---- trees
+
+    def last(self):
+        return len(self.history)
+
+    def tree(self, revision):
+        sheets = {}
+        for _, _, changes in self.history[:revision]:
+            for sheet, (action, data, _) in changes.items():
+                if action == DELETE:
+                    del sheets[sheet]
+                else:
+                    sheets[sheet] = data
+        return sheets
+
+    def namer(self, revision, sheet):
+        """The last commit up to the revision that names the sheet, or 0."""
+        for number in range(min(revision, self.last()), 0, -1):
+            if sheet in self.history[number - 1][2]:
+                return number
+        return 0
+
+    # ---- entries
+
+    def modified(self, sheet, entry):
+        return entry[0] == 'normal' and entry[2] != self.tree(entry[1])[sheet]
+
+    def pending(self, sheet, entry):
+        return entry[0] in ('added', 'deleted', 'copied') or self.modified(sheet, entry)
+
+    def out_of_date(self, sheet, entry):
+        if entry[0] in ('added', 'copied'):
+            return sheet in self.tree(self.last())
+        if entry[0] == 'deleted' or self.modified(sheet, entry):
+            return self.namer(self.last(), sheet) > entry[1]
+        return False
+
+    def change(self, sheet, entry):
+        if entry[0] == 'added':
+            return (ADD, entry[1], None)
+        if entry[0] == 'normal':
+            return (CHANGE, entry[2], None)
+        if entry[0] == 'deleted':
+            return (DELETE, None, None)
+        return (COPY, entry[2], entry[1])
+
+    def content(self, change):
+        """How many content blocks the change takes."""
+        action, data, source = change
+        if action == COPY:
+            return int(self.tree(source[1])[source[0]] != data)
+        return int(action != DELETE)
+
+    def updated(self, sheet, entry, revision):
+        """What update makes of a chosen entry, or None for a conflict."""
+        tree = self.tree(revision)
+        if not self.pending(sheet, entry):
+            return ('normal', revision, tree[sheet]) if sheet in tree else EMPTY
+        if entry[0] in ('normal', 'deleted'):
+            if self.namer(revision, sheet) == self.namer(entry[1], sheet):
+                return (entry[0], revision, *entry[2:])
+            return None
+        return None if sheet in tree else entry
+
+    def reverted(self, sheet, entry):
+        if entry[0] in ('normal', 'deleted'):
+            return ('normal', entry[1], self.tree(entry[1])[sheet])
+        return EMPTY
+
+    # ---- calls
+
+    def call(self, name, seat, *args):
+        return getattr(self, 'do_' + name)(self.seats[seat], seat, *args)
+
+    def do_add(self, entries, seat, sheet, data):
+        if sheet > 31 or len(data) > 480:
+            return ('no', 7)
+        if entries[sheet] != EMPTY:
+            return ('no', 9)
+        entries[sheet] = ('added', data)
+        return ('done',)
+
+    def do_edit(self, entries, seat, sheet, data):
+        if sheet > 31 or len(data) > 480:
+            return ('no', 7)
+        if entries[sheet][0] in ('empty', 'deleted'):
+            return ('no', 8)
+        entries[sheet] = (*entries[sheet][:-1], data)
+        return ('done',)
+
+    def do_delete(self, entries, seat, sheet):
+        if sheet > 31:
+            return ('no', 7)
+        entry = entries[sheet]
+        if entry[0] in ('empty', 'deleted'):
+            return ('no', 8)
+        entries[sheet] = ('deleted', entry[1]) if entry[0] == 'normal' else EMPTY
+        return ('done',)
+
+    def do_copy(self, entries, seat, sheet, target):
+        if sheet > 31 or target > 31:
+            return ('no', 7)
+        entry = entries[sheet]
+        if entry[0] in ('empty', 'deleted'):
+            return ('no', 8)
+        if entries[target] != EMPTY:
+            return ('no', 9)
+        entries[target] = ('copied', (sheet, entry[1]), entry[2]) if entry[0] == 'normal' else entry
+        return ('done',)
+
+    def do_move(self, entries, seat, sheet, target):
+        answer = self.do_copy(entries, seat, sheet, target)
+        if answer == ('done',):
+            self.do_delete(entries, seat, sheet)
+        return answer
+
+    def do_commit(self, entries, seat, stamp, mask):
+        if mask == 0:
+            return ('no', 7)
+        chosen = [i for i in range(32) if mask >> i & 1 and self.pending(i, entries[i])]
+        if not chosen:
+            return ('no', 10)
+        if any(self.out_of_date(i, entries[i]) for i in chosen):
+            return ('no', 11)
+        changes = {i: self.change(i, entries[i]) for i in chosen}
+        blocks = sum(self.content(c) for c in changes.values()) + 1
+        if self.used + blocks > self.blocks:
+            return ('no', 13)
+        self.used += blocks
+        self.history.append((seat, stamp, changes))
+        for i, (action, data, _) in changes.items():
+            entries[i] = EMPTY if action == DELETE else ('normal', self.last(), data)
+        return ('revision', self.last())
+
+    def do_update(self, entries, seat, mask, revision):
+        if mask == 0 or revision > self.last():
+            return ('no', 7)
+        chosen = {i: self.updated(i, entries[i], revision) for i in range(32) if mask >> i & 1}
+        if None in chosen.values():
+            return ('no', 12)
+        for i, entry in chosen.items():
+            entries[i] = entry
+        return ('done',)
+
+    def do_revert(self, entries, seat, mask):
+        if mask == 0:
+            return ('no', 7)
+        for i in range(32):
+            if mask >> i & 1:
+                entries[i] = self.reverted(i, entries[i])
+        return ('done',)
+
+    def do_read(self, entries, seat, revision, sheet):
+        if sheet > 31 or revision > self.last():
+            return ('no', 7)
+        tree = self.tree(revision)
+        return ('bytes', tree[sheet]) if sheet in tree else ('no', 8)
+
+    def do_show(self, entries, seat, sheet):
+        if sheet > 31:
+            return ('no', 7)
+        if entries[sheet][0] in ('normal', 'added', 'copied'):
+            return ('bytes', entries[sheet][-1])
+        return self.do_read(entries, seat, self.last(), sheet)
+
+    def do_status(self, entries, seat, sheet):
+        if sheet > 31:
+            return ('no', 7)
+        entry = entries[sheet]
+        if entry == EMPTY:
+            return ('status', 8 if sheet in self.tree(self.last()) else 0)
+        if entry[0] == 'normal':
+            later = self.namer(self.last(), sheet) > entry[1]
+            return ('status', 1 + self.modified(sheet, entry) + 2 * later)
+        return ('status', {'added': 5, 'deleted': 6, 'copied': 7}[entry[0]])
+
+    def do_log(self, entries, seat, revision, sheet):
+        if sheet > 31 or revision == 0 or revision > self.last():
+            return ('no', 7)
+        by, stamp, changes = self.history[revision - 1]
+        change = changes.get(sheet)
+        return ('log', by, stamp, len(changes), change and (change[0], change[2]))
