@@ -1,0 +1,100 @@
+"""The engine through its C library, for tests: builds it and wraps each call. Buffers are bytearrays that the calls change in place.
+
+Answers are those of tests/model: ('no', number), ('done',), ('revision', R), ('bytes', bytes), ('status', number), ('log', ..).
+"""
+import ctypes, pathlib, subprocess
+
+ROOT = pathlib.Path(__file__).resolve().parent.parent
+u32, size_t = ctypes.c_uint32, ctypes.c_size_t
+
+
+class Answer(ctypes.Structure):
+    _fields_ = [('refusal', u32), ('value', u32)]
+
+
+class Place(ctypes.Structure):
+    _fields_ = [('refusal', u32), ('buffer', u32), ('start', size_t), ('len', size_t)]
+
+
+class LogEntry(ctypes.Structure):
+    _fields_ = [(n, u32) for n in ('refusal', 'seat', 'stamp', 'changes', 'action', 'source_sheet', 'source_revision')]
+
+
+def build():
+    """The static library as one that Python can load."""
+    subprocess.run(['rt', 'staticlib', 'sheetstore'], cwd=ROOT, check=True, stdout=subprocess.DEVNULL)
+    library = ROOT / 'target' / 'staticlib' / 'libsheetstore.so'
+    subprocess.run(['gcc', '-shared', '-o', library, '-Wl,--whole-archive', ROOT / 'target' / 'staticlib' / 'libsheetstore.a', '-Wl,--no-whole-archive'], check=True)
+    return ctypes.CDLL(str(library))
+
+
+class Engine:
+    def __init__(self):
+        self.library = build()
+        for name, result in dict(read=Place, show=Place, log=LogEntry).items():
+            if hasattr(self.library, 'sheets_' + name):
+                getattr(self.library, 'sheets_' + name).restype = result
+
+    @staticmethod
+    def lent(buffer):
+        """A buffer as a pointer and a length."""
+        if isinstance(buffer, bytearray):
+            return (ctypes.c_uint8 * len(buffer)).from_buffer(buffer), size_t(len(buffer))
+        return bytes(buffer), size_t(len(buffer))
+
+    def _call(self, name, *args):
+        flat = []
+        for a in args:
+            flat.extend(self.lent(a) if isinstance(a, (bytes, bytearray)) else (u32(a),))
+        f = getattr(self.library, 'sheets_' + name)
+        if name not in ('read', 'show', 'log'):
+            f.restype = Answer
+        return f(*flat)
+
+    def _answer(self, name, *args):
+        r = self._call(name, *args)
+        if r.refusal:
+            assert r.value == 0
+            return ('no', r.refusal)
+        if name == 'commit':
+            return ('revision', r.value)
+        if name == 'status':
+            return ('status', r.value)
+        assert r.value == 0
+        return ('done',)
+
+    def create_store(self, store):
+        return self._answer('create_store', store)
+
+    def create_copy(self, copy, seat):
+        return self._answer('create_copy', copy, seat)
+
+    def read(self, store, revision, sheet):
+        r = self._call('read', store, revision, sheet)
+        return self._part(r, store, None)
+
+    def show(self, store, copy, sheet):
+        return self._part(self._call('show', store, copy, sheet), store, copy)
+
+    @staticmethod
+    def _part(r, store, copy):
+        if r.refusal:
+            assert (r.buffer, r.start, r.len) == (0, 0, 0)
+            return ('no', r.refusal)
+        return ('bytes', bytes((store, copy)[r.buffer][r.start:r.start + r.len]))
+
+    def log(self, store, revision, sheet):
+        r = self._call('log', store, revision, sheet)
+        if r.refusal:
+            return ('no', r.refusal)
+        source = (r.source_sheet, r.source_revision)
+        assert r.action == 4 or source == (0, 0)
+        return ('log', r.seat, r.stamp, r.changes, (r.action, source if r.action == 4 else None) if r.action else None)
+
+    def call(self, name, store, copy, *args):
+        """A call as the model names it, on the two buffers."""
+        if name in ('read', 'log'):
+            return getattr(self, name)(store, *args)
+        if name == 'show':
+            return self.show(store, copy, *args)
+        return self._answer(name, store, copy, *args)

@@ -1,0 +1,157 @@
+#!/usr/bin/env python3
+"""Stores handed to the engine, good and bad, each with the answer that document 01 fixes.
+
+Lengths; every single-byte change of a good store (2); each rule of "Blocks" broken in a resealed store (3); histories in
+sheet order and in others, read back at every revision. Nothing may change in a buffer that is only read.
+"""
+import pathlib, random, sys
+
+sys.path.insert(0, str(pathlib.Path(__file__).resolve().parent))
+sys.path.insert(0, str(pathlib.Path(__file__).resolve().parent / 'model'))
+import layout, sheets
+from engine import Engine
+
+passed = failed = 0
+
+
+def expect(what, got, wanted):
+    global passed, failed
+    if got == wanted:
+        passed += 1
+    else:
+        failed += 1
+        print(f'{what}: {got}, not {wanted}')
+
+
+def refusal(engine, store):
+    """The number that opening gives, 0 for none; the store must stay."""
+    before = bytes(store)
+    answer = engine.log(store, 0, 0)  # revision 0 is 7 where the store is accepted
+    assert bytes(store) == before
+    return 0 if answer == ('no', 7) else answer[1]
+
+
+def history(rng, blocks, calls):
+    """A history made by random calls of the model."""
+    import lists
+    m = sheets.Machine(blocks)
+    for _ in range(calls):
+        m.call(*lists.random_call(rng, m))
+    return m
+
+
+def lengths(engine):
+    good = layout.store_bytes(2, [])
+    for n in (0, 1, 511, 512, 513, 1023, 1025, 4097 * 512, 4096 * 512 + 1):
+        expect(f'length {n}', refusal(engine, bytearray((good + bytes(n))[:n])), 1)
+    for blocks in (2, 3, 32, 4096):
+        store = bytearray(blocks * 512)
+        expect(f'create of {blocks} blocks', engine.create_store(store), ('done',))
+        expect(f'fresh store of {blocks} blocks', bytes(store), layout.store_bytes(blocks, []))
+        expect(f'{blocks} blocks', refusal(engine, store), 0)
+    for n in (0, 1, 512, 4097 * 512):
+        store = bytearray(b'\x5a' * n)
+        expect(f'create of {n} bytes', engine.create_store(store), ('no', 1))
+        expect(f'create of {n} bytes leaves them', bytes(store), b'\x5a' * n)
+
+
+def single_bytes(engine):
+    h = [(2, 7, {5: (1, b'A', None)}), (2, 8, {5: (3, None, None), 6: (4, b'A', (5, 1))})]
+    good = layout.store_bytes(6, h)
+    expect('the good store', refusal(engine, bytearray(good)), 0)
+    for k in range(len(good)):
+        store = bytearray(good)
+        store[k] ^= 1 + k % 255
+        expect(f'byte {k} changed', refusal(engine, store), 2)
+
+
+def broken_rules(engine):
+    c, b, l = layout.content, layout.commit_block, layout.line
+    one = [layout.label(), c(1, b'A'), b(1, 2, 7, [l(5, 1, 1)])]
+    two = one + [c(2, b'B'), b(2, 2, 8, [l(5, 2, 3)])]
+    pair = [c(2, b'1'), c(2, b'2')]
+    good = {
+        'one commit': one, 'two': two,
+        'a move': one + [b(2, 2, 8, [l(6, 4, 1, (5, 1)), l(5, 3, 0)])],
+        'a modified copy': one + [c(2, b'B'), b(2, 2, 8, [l(6, 4, 3, (5, 1))])],
+        'a copy from an older revision': two + [b(3, 2, 9, [l(6, 4, 1, (5, 1))])],
+        'changes in another order': one + pair + [b(2, 2, 8, [l(7, 1, 3), l(6, 1, 4)])],
+        'contents in another order': one + pair + [b(2, 2, 8, [l(6, 1, 4), l(7, 1, 3)])],
+        'a change to the same bytes': one + [c(2, b'A'), b(2, 2, 8, [l(5, 2, 3)])],
+    }
+    bad = {
+        'no label': [bytes(512)] + one[1:],
+        'a label in the middle': one + [layout.label()],
+        'a block after a blank one': one + [bytes(512), c(2, b'')],
+        'contents without a commit': one + [c(2, b'')],
+        'a content of another revision': one + [c(1, b'B'), b(2, 2, 8, [l(5, 2, 3)])],
+        'a commit of another revision': one + [c(2, b'B'), b(3, 2, 8, [l(5, 2, 3)])],
+        'seat 0': [one[0], one[1], b(1, 0, 7, [l(5, 1, 1)])],
+        'seat 5': [one[0], one[1], b(1, 5, 7, [l(5, 1, 1)])],
+        'no change': one + [b(2, 2, 8, [])],
+        '33 changes': one + [c(2, b'')] * 33 + [layout.sealed((bytes([3, 0, 33, 0, 2, 0, 2, 0, 8]) + bytes(7) + b''.join(l(i, 1, 3 + i) for i in range(33)))[:508])],
+        'sheet 32': [one[0], one[1], b(1, 2, 7, [l(32, 1, 1)])],
+        'a sheet twice': one + pair + [b(2, 2, 8, [l(6, 1, 3), l(6, 1, 4)])],
+        'add of a present sheet': one + [c(2, b''), b(2, 2, 8, [l(5, 1, 3)])],
+        'change of an absent one': one + [c(2, b''), b(2, 2, 8, [l(6, 2, 3)])],
+        'delete of an absent one': one + [b(2, 2, 8, [l(6, 3, 0)])],
+        'delete with a block': one + [b(2, 2, 8, [l(5, 3, 1)])],
+        'add with another commit\'s block': one + [b(2, 2, 8, [l(6, 1, 1)])],
+        'add with a source': one + [c(2, b''), b(2, 2, 8, [l(6, 1, 3, (5, 1))])],
+        'action 0': one + [c(2, b''), b(2, 2, 8, [l(6, 0, 3)])],
+        'action 5': one + [c(2, b''), b(2, 2, 8, [l(6, 5, 3)])],
+        'copy to a present sheet': one + [b(2, 2, 8, [l(5, 4, 1, (5, 1))])],
+        'copy from revision 0': one + [b(2, 2, 8, [l(6, 4, 1, (5, 0))])],
+        'copy from its own revision': one + [b(2, 2, 8, [l(6, 4, 1, (5, 2))])],
+        'copy of an absent sheet': one + [b(2, 2, 8, [l(6, 4, 1, (7, 1))])],
+        'copy of sheet 32': one + [b(2, 2, 8, [l(6, 4, 1, (32, 1))])],
+        'the newest block for an older revision': two + [b(3, 2, 9, [l(6, 4, 3, (5, 1))])],
+        'own content with the source\'s bytes': one + [c(2, b'A'), b(2, 2, 8, [l(6, 4, 3, (5, 1))])],
+        'a content that no change points to': one + [c(2, b''), b(2, 2, 8, [l(5, 3, 0)])],
+        'a content that two point to': one + [c(2, b''), b(2, 2, 8, [l(6, 1, 3), l(7, 1, 3)])],
+        'a block number past the end': one + [b(2, 2, 8, [l(6, 1, 60000)])],
+        'kind 4': one + [layout.sealed([4, 1])],
+        'kind 0 with a byte': one + [layout.sealed([0, 0, 0, 1])],
+    }
+    for what, blocks in good.items():
+        expect(what, refusal(engine, bytearray(b''.join(blocks) + bytes(512))), 0)
+    for what, blocks in bad.items():
+        expect(what, refusal(engine, bytearray(b''.join(blocks) + bytes(512))), 3)
+    # bytes that are not named
+    store = b''.join(two) + bytes(512)
+    for number, named in ((0, {0, 1}), (1, {0, 2, 3, 4, 5} | set(range(16, 17))), (2, {0, 2, 3, 4, 5, 6} | set(range(8, 12)) | set(range(16, 24)))):
+        for k in set(range(508)) - named:
+            changed = bytearray(store)
+            changed[number * 512 + k] = 1
+            expect(f'byte {k} of block {number}', refusal(engine, layout.resealed(bytes(changed), number)), 3)
+    for length in (481, 496, 497, 512, 65535):
+        block = layout.sealed(bytes([2, 0]) + layout.two(length) + layout.two(2) + bytes(10) + b'\1' * 480)
+        expect(f'length {length}', refusal(engine, bytearray(b''.join(one + [block, b(2, 2, 8, [l(5, 2, 3)])]))), 3)
+
+
+def histories(engine, rng, count):
+    for _ in range(count):
+        m = history(rng, rng.choice([8, 32, 64, 65, 200]), rng.choice([20, 100, 200]))
+        shuffled = lambda xs: rng.sample(xs, len(xs))
+        for order in (None, shuffled):
+            store = bytearray(layout.store_bytes(m.blocks, m.history, order))
+            expect('a history', refusal(engine, store), 0)
+            for revision in range(m.last() + 2):
+                for sheet in (*range(32), 32, 2 ** 32 - 1):
+                    expect(f'read {revision} {sheet}', engine.read(store, revision, sheet), m.call('read', 1, revision, sheet))
+                    expect(f'log {revision} {sheet}', engine.log(store, revision, sheet), m.call('log', 1, revision, sheet))
+
+
+def main():
+    seed = int(sys.argv[1]) if len(sys.argv) > 1 else 1
+    engine = Engine()
+    lengths(engine)
+    single_bytes(engine)
+    broken_rules(engine)
+    histories(engine, random.Random(seed), 12)
+    print(f'{passed} passed, {failed} failed' + (f' (seed {seed})' if failed else ''))
+    sys.exit(failed != 0)
+
+
+if __name__ == '__main__':
+    main()
