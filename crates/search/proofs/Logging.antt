@@ -68,7 +68,8 @@ commit-there look at k tables (commit r s q ls ∷ bs) t zero h c =
     }
 commit-there look at k tables (commit r s q ls ∷ bs) t (suc p) h c =
     let u = and-true (eqb r (length tables)) (laid look at k tables s ls && okFrom look (suc (at + k)) 0 (grown tables ls) bs) t .1 in
-    let w = commit-there look (suc (at + k)) 0 (grown tables ls) bs (and-true (laid look at k tables s ls) (okFrom look (suc (at + k)) 0 (grown tables ls) bs) u .1) p (omega arith) (omega arith) in
+    let w = commit-there look (suc (at + k)) 0 (grown tables ls) bs
+    (and-true (laid look at k tables s ls) (okFrom look (suc (at + k)) 0 (grown tables ls) bs) u .1) p (omega arith) (omega arith) in
     record { revision = w .revision; seat = w .seat; stamp = w .stamp; lines = w .lines; is = w .is; states = w .states; many = w .many }
 
 module _ (s : Bytes) (n used : ℕ) (A : Accepted s n used) (r b : ℕ) (G : Bound s used r b) (low : 1 ≤ r) (high : r ≤ last (storeHistory s)) where
@@ -146,7 +147,7 @@ module _ (s : Bytes) (n used : ℕ) (A : Accepted s n used) (r b : ℕ) (G : Bou
       ∙ ap (λ (x : ℕ). getD (readFrom look rest) x noCommit) (sym just)
       ∙ there .states
 
-  -- THE STATEMENT
+  -- THE STATEMENT: what stands in the block is what log answers
   pub log-is : (i : ℕ) → i < 32 → (x : LogEntry) → x .seat ≡ getD bytes 6 0 → x .stamp ≡ fourAt bytes 8 → x .changes ≡ twoAt bytes 2
       → x .action ≡ deedIn i (parseLines (twoAt bytes 2) (drop 16 bytes)) → answerOf (Logged x) ≡ doing (storeSide s) (Log r i) .0
   unfolding stated

@@ -25,7 +25,7 @@ use Rattle.search.specs.Find.{Bound, back, hitIn, inBlock}
 use Rattle.search.specs.declared.Found.{Found}
 use Rattle.shape.specs.Shape.{kindOf}
 
--- A COMMIT
+-- ---- a commit
 
 abbrev anyNames : ℕ → List Line → Bool
 anyNames i [] = false
@@ -61,7 +61,7 @@ stated-names look i h (l ∷ ls) =
           (ap names (getD-set-other (puts (means look) ls noChanges) (l .sheet) i (means look l) nothing (λ q. o (sym q))) ∙ stated-names look i h ls)
     ]
 
--- BLOCKS IN USE
+-- ---- blocks in use
 
 abbrev Solid : List Block → Type 0
 Solid xs = All (λ (x : Block). 2 ≤ kindOf x) xs

@@ -41,7 +41,8 @@ two-at-requires c κs = search needs
 returns-4 : tie.Need-returns-4
 returns-4 c =
     let a = c .before .before .before .before .before .before .before .args in
-    sym (deed-copy (a .b .now) (a .o) (c .before .before .before .before .if1 .left) (c .before .before .before .if2 .left) (c .before .before .if3 .left) (c .two-at .result) (c .two-at .ensures .0))
+    sym (deed-copy (a .b .now) (a .o) (c .before .before .before .before .if1 .left) (c .before .before .before .if2 .left) (c .before .before .if3 .left)
+    (c .two-at .result) (c .two-at .ensures .0))
 
 pub deed-at-spec : {M : Type 1} → statement M
 deed-at-spec =

@@ -62,8 +62,14 @@ deed-in-requires : tie.Need-deed-in-requires
 deed-in-requires c κs =
     let k = c .before .before .before .before .before .before in
     let a = k .args in (
-      before-size (a .store .now) (a .n) (a .used) (k .pre .0) (a .r) (c .before .before .before .before .bound .result) (c .before .before .before .before .bound .ensures) (k .pre .1) (k .pre .2),
-      omega (arith, c .two-at .ensures .0, before-few (a .store .now) (a .n) (a .used) (k .pre .0) (a .r) (c .before .before .before .before .bound .result) (c .before .before .before .before .bound .ensures) (k .pre .1) (k .pre .2)),
+      before-size (a .store .now) (a .n) (a .used) (k .pre .0) (a .r) (c .before .before .before .before .bound .result)
+          (c .before .before .before .before .bound .ensures) (k .pre .1) (k .pre .2),
+      omega (
+        arith,
+        c .two-at .ensures .0,
+        before-few (a .store .now) (a .n) (a .used) (k .pre .0) (a .r) (c .before .before .before .before .bound .result)
+            (c .before .before .before .before .bound .ensures) (k .pre .1) (k .pre .2),
+      ),
     )
 
 returns : tie.Need-returns
@@ -71,7 +77,8 @@ returns c =
     let k = c .before .before .before .before .before .before .before in
     let a = k .args in
     let l = lent (a .store .now) (c .before .before .before .before .before .bound .result - 1) in
-    log-is (a .store .now) (a .n) (a .used) (k .pre .0) (a .r) (c .before .before .before .before .before .bound .result) (c .before .before .before .before .before .bound .ensures) (k .pre .1) (k .pre .2) (a .i) (k .pre .3) _
+    log-is (a .store .now) (a .n) (a .used) (k .pre .0) (a .r) (c .before .before .before .before .before .bound .result)
+    (c .before .before .before .before .before .bound .ensures) (k .pre .1) (k .pre .2) (a .i) (k .pre .3) _
     refl (c .before .before .get32 .ensures) (c .before .two-at .ensures .0)
     (c .deed-in .ensures ∙ ap (λ (m : ℕ). deedIn (a .i) (parseLines m (drop 16 l))) (c .before .two-at .ensures .0))
 
