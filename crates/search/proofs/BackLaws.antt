@@ -40,12 +40,13 @@ unfolding lawful shaped
 few-changes n p s e h k =
     let l = lent s p in
     let t = and-true (all (shaped fieldsOf parse fitsBlock) (parts n s)) (ok (blocksOf n s)) (subst T (sym e) tt) .0 in
-    let u : T (shaped fieldsOf parse fitsBlock l) = subst (λ (x : List ℕ). T (shaped fieldsOf parse fitsBlock x)) (sym (lent-is s p)) (all-part (shaped fieldsOf parse fitsBlock) n p s t h) in
+    let u : T (shaped fieldsOf parse fitsBlock l) = subst (λ (x : List ℕ). T (shaped fieldsOf parse fitsBlock x)) (sym (lent-is s p))
+    (all-part (shaped fieldsOf parse fitsBlock) n p s t h) in
     let f = block-coded .says (parse l) .true-so (and-true (fitsBlock (parse l)) (same (padded (fieldsOf (parse l))) (take 508 l)) u .0) in
     let g : FitsBlock (commitOf l) = subst FitsBlock (parse-commit l k) f in
     omega (arith, g .3 .0, length-parse (twoAt l 2) (drop 16 l))
 
--- THE SEARCH
+-- ---- the search
 
 pub back-none : (bs : List Block) (i p : ℕ) → p ≤ 0 → back bs i p ≡ nowhere
 unfolding back

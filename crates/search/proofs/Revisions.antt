@@ -147,7 +147,7 @@ trail-after look at k tables t (commit r s w ls ∷ bs) u (suc q) h =
     let v = and-true (eqb r (length tables)) (laid look at k tables s ls && okFrom look (suc (at + k)) 0 (grown tables ls) bs) u .1 in
     trail-after look (suc (at + k)) 0 (grown tables ls) (next ls t) bs (and-true (laid look at k tables s ls) (okFrom look (suc (at + k)) 0 (grown tables ls) bs) v .1) q (omega arith)
 
--- THE STORE
+-- ---- the store
 
 pub opened : (bs : List Block) → T (ok bs) → (rest : List Block) × (bs ≡ label ∷ rest) × T (okFrom (bytesAt bs) 1 0 (replicate 32 0 ∷ []) rest)
 unfolding ok
@@ -211,7 +211,7 @@ module _ (s : List ℕ) (n used : ℕ) (A : Passed s n used) where
   used-high = omega (arith, A .inUse, used-few (blocksOf n s), length-blocks n s)
 
   -- the revision that block p states
-  rev-at : (p : ℕ) → 1 ≤ p → p < used → revAt s p ≡ 1 + count (take (p - 1) rest)
+  pub rev-at : (p : ℕ) → 1 ≤ p → p < used → revAt s p ≡ 1 + count (take (p - 1) rest)
   rev-at zero h g = absurd (omega arith)
   rev-at (suc p) h g =
       let b : getD (blocksOf n s) (suc p) blank ≡ parse (lent s (suc p)) = block-at n (suc p) s (omega (arith, used-high)) in
@@ -239,7 +239,8 @@ module _ (s : List ℕ) (n used : ℕ) (A : Passed s n used) where
               let v = rev-at (b - 1) (omega (arith, G .low)) (omega (arith, G .low, G .high)) in
               let w = G .before (b - 1) (omega (arith, G .low)) (omega (arith, G .low)) in
               let d : b - 1 - 1 + 1 ≡ b - 1 = omega (arith, G .low) in
-              let c : count (take (b - 1) rest) ≤ count (take (b - 1 - 1) rest) + 1 = subst (λ (x : ℕ). count (take x rest) ≤ count (take (b - 1 - 1) rest) + 1) d (count-one rest (b - 1 - 1)) in
+              let c : count (take (b - 1) rest) ≤ count (take (b - 1 - 1) rest) + 1 = subst (λ (x : ℕ). count (take x rest) ≤ count (take (b - 1 - 1) rest) + 1) d
+              (count-one rest (b - 1 - 1)) in
               omega arith)
         ]
 

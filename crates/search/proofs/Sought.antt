@@ -46,7 +46,8 @@ hit-block : (i r : ℕ) (ls : List Line) (older : Found) → hitIn i r ls older 
 hit-block i r [] older = refl
 hit-block i r (l ∷ ls) older = go (hit-block i r ls older) (eqb (l .sheet) i)
   where
-    go : hitIn i r ls older .block ≡ hit i ls (older .block) → (t : Bool) → cond t (record { block = l .block; revision = r }) (hitIn i r ls older) .block ≡ cond t (l .block) (hit i ls (older .block))
+    go : hitIn i r ls older .block ≡ hit i ls (older .block) → (t : Bool)
+        → cond t (record { block = l .block; revision = r }) (hitIn i r ls older) .block ≡ cond t (l .block) (hit i ls (older .block))
     go e true = refl
     go e false = e
 
@@ -85,7 +86,8 @@ back-after bs i h zero g = sym (getD-replicate 32 i 0 0 h)
 back-after bs i h (suc b) g =
     let t = after (take b bs) (replicate 32 0) in
     one-block i (getD bs b blank) (back (label ∷ bs) i (suc b)) t (subst (λ (x : ℕ). i < x) (sym (length-after (take b bs) (replicate 32 0))) h) (back-after bs i h b (omega arith))
-    ∙ ap (λ (x : Table). getD x i 0) (sym (ap (λ (x : List Block). after x (replicate 32 0)) (take-suc bs b blank (omega arith)) ∙ after-snoc (take b bs) (getD bs b blank) (replicate 32 0)))
+    ∙ ap (λ (x : Table). getD x i 0) (sym (ap (λ (x : List Block). after x (replicate 32 0)) (take-suc bs b blank (omega arith))
+    ∙ after-snoc (take b bs) (getD bs b blank) (replicate 32 0)))
 
 -- THE STATEMENT: before the bound of r stands what tree r's table has
 pub sought : (s : List ℕ) (n used r b i : ℕ) → Passed s n used → Bound s used r b → r ≤ length (historyOf n s) → i < 32

@@ -159,8 +159,10 @@ module _ (l : List ℕ) (size : length l ≡ 512) (bytes : (i : ℕ) → getD l 
             record {
               one = q .0;
               size = h;
-              gap = λ i a b. let j : (k : ℕ) × (6 + k ≡ i) = (i - 6, omega arith) in subst (λ (x : ℕ). getD l x 0 ≡ 0) (j .1) (sym (getD-drop 6 l (j .0) 0) ∙ q .1 (j .0) (omega arith) (omega (arith, j .1)));
-              rest = λ i a b. let j : (k : ℕ) × (16 + k ≡ i) = (i - 16, omega arith) in subst (λ (x : ℕ). getD l x 0 ≡ 0) (j .1) (sym (getD-drop 16 l (j .0) 0) ∙ q .2 (j .0) (omega (arith, j .1)) (omega (arith, j .1)));
+              gap = λ i a b. let j : (k : ℕ) × (6 + k ≡ i) = (i - 6, omega arith) in subst (λ (x : ℕ). getD l x 0 ≡ 0) (j .1)
+                  (sym (getD-drop 6 l (j .0) 0) ∙ q .1 (j .0) (omega arith) (omega (arith, j .1)));
+              rest = λ i a b. let j : (k : ℕ) × (16 + k ≡ i) = (i - 16, omega arith) in subst (λ (x : ℕ). getD l x 0 ≡ 0) (j .1)
+                  (sym (getD-drop 16 l (j .0) 0) ∙ q .2 (j .0) (omega (arith, j .1)) (omega (arith, j .1)));
             };
         so-true = λ s.
             true-and (fitsBlock (parse l)) (same (padded (fieldsOf (parse l))) (take 508 l))

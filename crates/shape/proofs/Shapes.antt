@@ -276,7 +276,12 @@ module _ (l : List ℕ) (size : length l ≡ 512) where
         r .so-true (q .0, (h, (q .1, ((λ i a b. four i a b (q .2)), (q .3 .0, q .3 .1))))))
         (λ t. let q = r .true-so t in let h = q .1 .0 in let z = q .1 .1 .1 .0 in
         true-and (fitsBlock C) (same (padded (fieldsOf C)) (take 508 l)) (few-fit h)
-        (says-commit h .so-true (q .0, q .1 .1 .0, (z 12 (omega arith) (omega arith), z 13 (omega arith) (omega arith), z 14 (omega arith) (omega arith), z 15 (omega arith) (omega arith)), q .1 .1 .1 .1))))
+        (says-commit h .so-true (
+          q .0,
+          q .1 .1 .0,
+          (z 12 (omega arith) (omega arith), z 13 (omega arith) (omega arith), z 14 (omega arith) (omega arith), z 15 (omega arith) (omega arith)),
+          q .1 .1 .1 .1,
+        ))))
       where
         bool-alike : (a b : Bool) → (T a → T b) → (T b → T a) → a ≡ b
         bool-alike true true f g = refl

@@ -97,7 +97,8 @@ module _ (l : List ℕ) where
                 let o = first-ok B R q in
                 let r : length (readAll B) ≡ 0 + length (readFrom (bytesAt B) R) = ap length (first-read B R q) ∙ omega arith in
                 let u : length (front B) ≡ 1 + length (front R) = first-used B R q ∙ omega arith in
-                sym (rw (eq-eqb (length l % 512) 0 e, le-ltb (length l / 512) 2 low, le-ltb 4_096 (length l / 512) high, c, s, o, r, u) (passes (okFrom (bytesAt B) 1 0 (replicate 32 0 ∷ []) R) _))
+                sym (rw (eq-eqb (length l % 512) 0 e, le-ltb (length l / 512) 2 low, le-ltb 4_096 (length l / 512) high, c, s, o, r, u)
+                (passes (okFrom (bytesAt B) 1 0 (replicate 32 0 ∷ []) R) _))
 
 -- the table
 

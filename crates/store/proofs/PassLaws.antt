@@ -28,7 +28,7 @@ use Rattle.store.specs.declared.Header.{Header}
 use Rattle.store.specs.declared.Opened.the-variants.{Open, Refused}
 use Rattle.store.specs.declared.Spot.{Spot}
 
--- BLOCK AFTER BLOCK
+-- ---- block after block
 
 pub rest-step : (n : ℕ) (s : List ℕ) (pos : ℕ) → pos < n → drop pos (blocksOf n s) ≡ parse (lent s pos) ∷ drop (pos + 1) (blocksOf n s)
 rest-step n s pos h =
@@ -38,7 +38,7 @@ rest-step n s pos h =
 pub rest-none : (n : ℕ) (s : List ℕ) (pos : ℕ) → n ≤ pos → drop pos (blocksOf n s) ≡ []
 rest-none n s pos h = drop-of-length-le (blocksOf n s) {i = pos} (omega (arith, length-blocks n s))
 
--- WHAT A BLOCK IS, BY ITS KIND
+-- ---- what a block is, by its kind
 
 module _ (C M : Block) (c : kindOf C ≡ 2) (m : kindOf M ≡ 3) where
   abbrev picked : Bool → Bool → Bool → Block
@@ -107,7 +107,7 @@ blank-is (content r b) = refl
 blank-is (commit r s t ls) = refl
 blank-is blank = refl
 
--- THE PASS
+-- ---- the pass
 
 module _ (look : ℕ → List ℕ) (at k : ℕ) (tables : List Table) (bs : List Block) where
   pub passed-label : passed look at k tables (label ∷ bs) ≡ Refused StoreLayout
@@ -159,7 +159,7 @@ module _ (look : ℕ → List ℕ) (w : Spot) (tables : List Table) (e : length 
   unfolding endingBy passed okFrom readFrom
   passed-blank bs = ap (λ (y : Header). cond (eqb (w .k) 0 && all isBlank bs) (Open y) (Refused StoreLayout)) header-end
 
--- BLANK BLOCKS
+-- ---- blank blocks
 
 pub blanks-step : (n : ℕ) (s : List ℕ) (p : ℕ) → p < n
     → all isBlank (drop p (blocksOf n s)) ≡ (eqb (kindOf (parse (lent s p))) 0 && all isBlank (drop (p + 1) (blocksOf n s)))
@@ -169,7 +169,7 @@ blanks-step n s p h =
 pub blanks-none : (n : ℕ) (s : List ℕ) (p : ℕ) → n ≤ p → all isBlank (drop p (blocksOf n s)) ≡ true
 blanks-none n s p h = ap (all isBlank) (rest-none n s p h)
 
--- A TURN
+-- ---- a turn
 
 module _ (look : ℕ → List ℕ) (n : ℕ) (s : List ℕ) (at k last : ℕ) (tab : List ℕ) where
   abbrev here : Spot
@@ -185,7 +185,8 @@ module _ (look : ℕ → List ℕ) (n : ℕ) (s : List ℕ) (at k last : ℕ) (t
       ∙ ap (λ (y : List Block). endingBy here (all isBlank y)) (sym (rest-none n s (at + k) h))
 
   module _ (h : at + k < n) where
-    step : (b : Block) → parse (lent s (at + k)) ≡ b → passed look at k (rowsOf (last + 1) tab) (drop (at + k) (blocksOf n s)) ≡ passed look at k (rowsOf (last + 1) tab) (b ∷ drop (at + k + 1) (blocksOf n s))
+    step : (b : Block) → parse (lent s (at + k)) ≡ b
+        → passed look at k (rowsOf (last + 1) tab) (drop (at + k) (blocksOf n s)) ≡ passed look at k (rowsOf (last + 1) tab) (b ∷ drop (at + k + 1) (blocksOf n s))
     step b e = ap (passed look at k (rowsOf (last + 1) tab)) (rest-step n s (at + k) h ∙ ap (λ (x : Block). x ∷ drop (at + k + 1) (blocksOf n s)) e)
 
     pub turn-blank : kindOf (parse (lent s (at + k))) ≡ 0
@@ -218,7 +219,8 @@ module _ (look : ℕ → List ℕ) (n : ℕ) (s : List ℕ) (at k last : ℕ) (t
           | inl e ↦ step (contentOf x) (parse-content x e)
               ∙ passed-elsewhere look at k (rowsOf (last + 1) tab) (drop (at + k + 1) (blocksOf n s)) (twoAt x 4) (take (twoAt x 2) (drop 16 x)) (λ y. q (y ∙ rows-here))
           | inr o ↦ step (commitOf x) (parse-commit x (omega (arith, low, n₀, n₁)))
-              ∙ passed-other look at k (rowsOf (last + 1) tab) (drop (at + k + 1) (blocksOf n s)) (twoAt x 4) (getD x 6 0) (fourAt x 8) (parseLines (twoAt x 2) (drop 16 x)) (λ y. q (y ∙ rows-here))
+              ∙ passed-other look at k (rowsOf (last + 1) tab) (drop (at + k + 1) (blocksOf n s)) (twoAt x 4) (getD x 6 0) (fourAt x 8)
+              (parseLines (twoAt x 2) (drop 16 x)) (λ y. q (y ∙ rows-here))
         ]
 
     module _ (e : kindOf (parse (lent s (at + k))) ≡ 3) (q : twoAt (lent s (at + k)) 4 ≡ last + 1) where
@@ -227,7 +229,8 @@ module _ (look : ℕ → List ℕ) (n : ℕ) (s : List ℕ) (at k last : ℕ) (t
       turn-unlaid f =
           let x = lent s (at + k) in
           step (commitOf x) (parse-commit x e)
-          ∙ passed-unlaid look at k (rowsOf (last + 1) tab) (drop (at + k + 1) (blocksOf n s)) (twoAt x 4) (getD x 6 0) (fourAt x 8) (parseLines (twoAt x 2) (drop 16 x)) (q ∙ sym (rows-here)) f
+          ∙ passed-unlaid look at k (rowsOf (last + 1) tab) (drop (at + k + 1) (blocksOf n s)) (twoAt x 4) (getD x 6 0) (fourAt x 8)
+          (parseLines (twoAt x 2) (drop 16 x)) (q ∙ sym (rows-here)) f
 
       pub turn-commit : (m : ℕ) (new : List ℕ) → m ≡ twoAt (lent s (at + k)) 2
           → laid look at k (rowsOf (last + 1) tab) (getD (lent s (at + k)) 6 0) (parseLines (twoAt (lent s (at + k)) 2) (drop 16 (lent s (at + k)))) ≡ true
@@ -238,7 +241,8 @@ module _ (look : ℕ → List ℕ) (n : ℕ) (s : List ℕ) (at k last : ℕ) (t
           let d : at + k + 1 ≡ at + k + 1 + 0 = omega arith in
           let lr = rows-here in
           step (commitOf x) (parse-commit x e)
-          ∙ passed-commit look at k (rowsOf (last + 1) tab) (drop (at + k + 1) (blocksOf n s)) (twoAt x 4) (getD x 6 0) (fourAt x 8) (parseLines (twoAt x 2) (drop 16 x)) (q ∙ sym lr) (omega arith) t
+          ∙ passed-commit look at k (rowsOf (last + 1) tab) (drop (at + k + 1) (blocksOf n s)) (twoAt x 4) (getD x 6 0) (fourAt x 8)
+          (parseLines (twoAt x 2) (drop 16 x)) (q ∙ sym lr) (omega arith) t
           ∙ ap₂ (λ (y : List Table) (z : ℕ). passed look (at + k + 1) 0 y (drop z (blocksOf n s)))
           (ap (λ (y : ℕ). grown (rowsOf (last + 1) tab) (parseLines y (drop 16 x))) (sym em) ∙ sym g) d
 

@@ -30,7 +30,7 @@ unfolding plainRule
 plain-absent w c n e =
     rw (ne-eqb (c .action) 1 n, eq-eqb (c .old) 0 e) (cond-same (eqb (c .action) 2) false)
 
--- ROWS: the flat table against the list of tables
+-- ---- rows: the flat table against the list of tables
 
 pub length-rows : (r : ℕ) (tab : List ℕ) → length (rowsOf r tab) ≡ r
 unfolding rowsOf
@@ -68,7 +68,7 @@ unfolding rowsOf
 old-at last i tab g =
     rw (add-one last) (ap (λ (x : Table). getD x i 0) (latest-snoc (rowsOf last tab) (rowOf last tab)) ∙ in-row last i tab g)
 
--- THE COPY
+-- ---- the copy
 
 module _ (look : ℕ → List ℕ) (w : Spot) (c : Change) where
   pub copy-present : (used : ℕ) → (c .old ≡ 0 → ⊥) → copyRule look w c used ≡ false
@@ -121,7 +121,7 @@ from-row look w c tab h g = ap (copyRule look w c) (used-at (w .last + 1) (c .re
 pub own-below : (at k p : ℕ) → ownOf at k p ≡ true → p < at + k
 own-below at k p e = says-and (says-le at p) (says-lt p (at + k)) .true-so (subst T (sym e) tt) .1
 
--- THE CHANGE
+-- ---- the change
 
 abbrev pub lineOf : ℕ → ℕ → ℕ → ℕ → ℕ → Line
 lineOf sheet action block source revision = record { sheet = sheet; action = actionOf action; block = block; source = source; revision = revision }

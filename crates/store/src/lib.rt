@@ -1,7 +1,7 @@
 // Whether a store's bytes are the layout of a history: refusals 1 to 3, or the last revision and the used blocks. Nothing is written. One pass over the checks, one
 // over the shapes and one forward over the commits, with a table of 32 block numbers for each revision, so that a copy's source is one read.
 use model::Refusal;
-ghost use Prim.Native.Nat.{_*_, _+_, _≤_, _<_, ℕ};
+ghost use Prim.Native.Nat.{_*_, _+_, _≤_, _<_};
 ghost use mathlib.Core.List.{[]};
 ghost use mathlib.Core.Path.{_≡_};
 ghost use lib.ListN.{drop, getD, length};

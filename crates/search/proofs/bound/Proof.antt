@@ -13,13 +13,17 @@ use Rattle.store.proofs.Blocks.{lent-is}
 use Rattle.search.proofs.bound.Tie as tie
 
 abbrev Inv-loop : tie.InvT-loop
-Inv-loop store n used r lo₀ hi₀ lo hi = (1 ≤ lo) × ((lo ≤ hi) × (hi ≤ used)) × ((p : ℕ) → 1 ≤ p → p < lo → revAt store p ≤ r) × ((p : ℕ) → hi ≤ p → p < used → r < revAt store p)
+Inv-loop store n used r lo₀ hi₀ lo hi =
+    (1 ≤ lo) × ((lo ≤ hi) × (hi ≤ used)) × ((p : ℕ) → 1 ≤ p → p < lo → revAt store p ≤ r)
+    × ((p : ℕ) → hi ≤ p → p < used → r < revAt store p)
 
 abbrev μ-loop : tie.MeasureT-loop
 μ-loop store n used r lo₀ hi₀ lo hi = hi - lo
 
 loop-holds : tie.Need-loop-holds Inv-loop μ-loop
-loop-holds c = let k = c .before in let a = k .args in let P = passed (a .store .now) (a .n) (a .used) (k .pre) in (omega arith, (omega (arith, used-low (a .store .now) (a .n) (a .used) P), omega arith), (λ p h g. absurd (omega arith)), (λ p h g. absurd (omega arith)))
+loop-holds c = let k = c .before in let a = k .args in
+    let P = passed (a .store .now) (a .n) (a .used) (k .pre) in
+    (omega arith, (omega (arith, used-low (a .store .now) (a .n) (a .used) P), omega arith), (λ p h g. absurd (omega arith)), (λ p h g. absurd (omega arith)))
 
 add-mid : tie.Need-add-mid Inv-loop μ-loop
 add-mid c =
@@ -80,7 +84,8 @@ loop-again c =
     let a = c .before .before .before .before .before .before .args in
     let P = passed (a .store .now) (a .n) (a .used) (c .before .before .before .before .before .before .pre) in
     let l = c .before .before .before .before .loop in
-    let e : c .before .two-at .result ≡ revAt (a .store .now) ((l .lo + l .hi) / 2) = c .before .two-at .ensures .0 ∙ ap (λ (x : List ℕ). twoAt x 4) (lent-is (a .store .now) ((l .lo + l .hi) / 2)) in (
+    let e : c .before .two-at .result ≡ revAt (a .store .now) ((l .lo + l .hi) / 2) = c .before .two-at .ensures .0
+    ∙ ap (λ (x : List ℕ). twoAt x 4) (lent-is (a .store .now) ((l .lo + l .hi) / 2)) in (
       omega arith,
       (omega arith, omega arith),
       (λ p h g. let q = rising (a .store .now) (a .n) (a .used) P p ((l .lo + l .hi) / 2) h (omega arith) (omega arith) in omega (arith, c .if1 .taken)),
@@ -99,7 +104,8 @@ loop-again-2 c =
     let a = c .before .before .before .before .before .before .args in
     let P = passed (a .store .now) (a .n) (a .used) (c .before .before .before .before .before .before .pre) in
     let l = c .before .before .before .before .loop in
-    let e : c .before .two-at .result ≡ revAt (a .store .now) ((l .lo + l .hi) / 2) = c .before .two-at .ensures .0 ∙ ap (λ (x : List ℕ). twoAt x 4) (lent-is (a .store .now) ((l .lo + l .hi) / 2)) in (
+    let e : c .before .two-at .result ≡ revAt (a .store .now) ((l .lo + l .hi) / 2) = c .before .two-at .ensures .0
+    ∙ ap (λ (x : List ℕ). twoAt x 4) (lent-is (a .store .now) ((l .lo + l .hi) / 2)) in (
       omega arith,
       (omega arith, omega arith),
       l .inv .2,

@@ -14,7 +14,9 @@ use Rattle.store.proofs.Blocks.{lent, part-size}
 use Rattle.search.proofs.find.Tie as tie
 
 abbrev Inv-changes : tie.InvT-changes
-Inv-changes store n used end i found₀ p a e b revision m j₀ found j = (found ≡ nowhere) × ((j ≤ m) × (m ≤ 32)) × (back (blocksOf n store) i end ≡ hitIn i revision (left (lent store p) 16 m j) (back (blocksOf n store) i p))
+Inv-changes store n used end i found₀ p a e b revision m j₀ found j =
+    (found ≡ nowhere) × ((j ≤ m) × (m ≤ 32))
+    × (back (blocksOf n store) i end ≡ hitIn i revision (left (lent store p) 16 m j) (back (blocksOf n store) i p))
 
 abbrev μ-changes : tie.MeasureT-changes
 μ-changes store n used end i found₀ p a e b revision m j₀ found j = m - j
@@ -84,7 +86,8 @@ changes-holds c =
     let few = few-changes (a .n) (l .p - 1) (a .store .now) (P .laws) (omega arith) k in (
       l .inv .0,
       (omega arith, omega (arith, few, c .two-at2 .ensures .0)),
-      l .inv .2 ∙ back-into (a .n) (a .store .now) (a .i) (l .p) (omega arith) (omega arith) (c .before .two-at .result) (c .two-at2 .result) k (c .before .two-at .ensures .0) (c .two-at2 .ensures .0),
+      l .inv .2 ∙ back-into (a .n) (a .store .now) (a .i) (l .p) (omega arith) (omega arith) (c .before .two-at .result) (c .two-at2 .result) k
+          (c .before .two-at .ensures .0) (c .two-at2 .ensures .0),
     )
 
 search-less-2 : tie.Need-search-less-2 Inv-changes μ-changes Inv-search μ-search
@@ -95,8 +98,12 @@ search-again-2 c =
     let a = c .before .before .before .before .before .before .before .before .before .before .args in
     let P = passed (a .store .now) (a .n) (a .used) (c .before .before .before .before .before .before .before .before .before .before .pre .0) in
     let l = c .before .before .before .before .before .before .before .before .search in
-    let v = c .before .changes in
-    (v .inv .0, omega arith, v .inv .2 ∙ hit-none (lent (a .store .now) (l .p - 1)) (a .i) (c .before .before .before .two-at .result) (c .before .before .two-at2 .result) (v .j) (back (blocksOf (a .n) (a .store .now)) (a .i) (l .p - 1)) (omega arith))
+    let v = c .before .changes in (
+      v .inv .0,
+      omega arith,
+      v .inv .2 ∙ hit-none (lent (a .store .now) (l .p - 1)) (a .i) (c .before .before .before .two-at .result)
+          (c .before .before .two-at2 .result) (v .j) (back (blocksOf (a .n) (a .store .now)) (a .i) (l .p - 1)) (omega arith),
+    )
 
 mul-o : tie.Need-mul-o Inv-changes μ-changes Inv-search μ-search
 mul-o c = search needs
@@ -134,8 +141,13 @@ changes-again c =
     let a = c .before .before .before .before .before .before .before .before .before .before .before .before .args in
     let P = passed (a .store .now) (a .n) (a .used) (c .before .before .before .before .before .before .before .before .before .before .before .before .pre .0) in
     let l = c .before .before .before .before .before .before .before .before .before .before .search in
-    let v = c .before .before .before .changes in
-    (v .inv .0, (omega arith, v .inv .1 .1), v .inv .2 ∙ hit-next (lent (a .store .now) (l .p - 1)) (a .i) (c .before .before .before .before .before .two-at .result) (c .before .before .before .before .two-at2 .result) (v .j) (back (blocksOf (a .n) (a .store .now)) (a .i) (l .p - 1)) (omega arith) (c .if2 .left))
+    let v = c .before .before .before .changes in (
+      v .inv .0,
+      (omega arith, v .inv .1 .1),
+      v .inv .2
+          ∙ hit-next (lent (a .store .now) (l .p - 1)) (a .i) (c .before .before .before .before .before .two-at .result)
+          (c .before .before .before .before .two-at2 .result) (v .j) (back (blocksOf (a .n) (a .store .now)) (a .i) (l .p - 1)) (omega arith) (c .if2 .left),
+    )
 
 returns : tie.Need-returns Inv-changes μ-changes Inv-search μ-search
 returns c =
@@ -149,7 +161,9 @@ returns-2 c =
     let P = passed (a .store .now) (a .n) (a .used) (c .before .before .before .before .before .before .before .before .before .before .before .before .before .pre .0) in
     let l = c .before .before .before .before .before .before .before .before .before .before .before .search in
     let v = c .before .before .before .before .changes in
-    sym (v .inv .2 ∙ hit-here (lent (a .store .now) (l .p - 1)) (a .i) (c .before .before .before .before .before .before .two-at .result) (c .before .before .before .before .before .two-at2 .result) (v .j) (back (blocksOf (a .n) (a .store .now)) (a .i) (l .p - 1)) (c .two-at3 .result) (omega arith) (c .before .if2 .taken) (c .two-at3 .ensures .0))
+    sym (v .inv .2 ∙ hit-here (lent (a .store .now) (l .p - 1)) (a .i) (c .before .before .before .before .before .before .two-at .result)
+    (c .before .before .before .before .before .two-at2 .result) (v .j) (back (blocksOf (a .n) (a .store .now)) (a .i) (l .p - 1)) (c .two-at3 .result) (omega arith)
+    (c .before .if2 .taken) (c .two-at3 .ensures .0))
 
 pub find-spec : {M : Type 1} → statement M
 find-spec =

@@ -32,7 +32,8 @@ returns-2 c =
     let k = c .before .before .before .before in
     let s = k .before .args .s .now in
     let e = c .before .two-at .ensures .0 in
-    sym (commit-shaped s (k .before .pre .0) (λ j. omega (arith, k .shared-slice-known .given j)) (k .before .pre .1) ∙ rw (eq-eqb _ 0 (c .before .before .if1 .left), lt-leb (twoAt s 2) 32 (omega (arith, e, c .if2 .taken))))
+    sym (commit-shaped s (k .before .pre .0) (λ j. omega (arith, k .shared-slice-known .given j)) (k .before .pre .1)
+    ∙ rw (eq-eqb _ 0 (c .before .before .if1 .left), lt-leb (twoAt s 2) 32 (omega (arith, e, c .if2 .taken))))
 
 shared-slice-read-if3 : tie.Need-shared-slice-read-if3
 shared-slice-read-if3 c = search needs
@@ -42,7 +43,13 @@ returns-3 c =
     let k = c .before .before .before .before .before .before in
     let s = k .before .args .s .now in
     let e = c .before .before .before .two-at .ensures .0 in
-    sym (commit-shaped s (k .before .pre .0) (λ j. omega (arith, k .shared-slice-known .given j)) (k .before .pre .1) ∙ rw (eq-eqb _ 0 (c .before .before .before .before .if1 .left), le-leb (twoAt s 2) 32 (omega (arith, e, c .before .before .if2 .left)), ne-eqb _ 0 (c .if3 .taken)))
+    sym (commit-shaped s (k .before .pre .0) (λ j. omega (arith, k .shared-slice-known .given j)) (k .before .pre .1)
+    ∙ rw (
+      eq-eqb _ 0 (c .before .before .before .before .if1 .left),
+      le-leb (twoAt s 2) 32 (omega (arith, e, c .before .before .if2 .left)),
+      ne-eqb _ 0
+          (c .if3 .taken),
+    ))
 
 zeros-requires : tie.Need-zeros-requires
 zeros-requires c κs = search needs
@@ -52,7 +59,15 @@ returns-4 c =
     let k = c .before .before .before .before .before .before .before .before in
     let s = k .before .args .s .now in
     let e = c .before .before .before .before .before .two-at .ensures .0 in
-    sym (commit-shaped s (k .before .pre .0) (λ j. omega (arith, k .shared-slice-known .given j)) (k .before .pre .1) ∙ rw (eq-eqb _ 0 (c .before .before .before .before .before .before .if1 .left), le-leb (twoAt s 2) 32 (omega (arith, e, c .before .before .before .before .if2 .left)), eq-eqb _ 0 (c .before .before .if3 .left), sym (c .before .zeros .ensures) ∙ not-true _ (c .if4 .taken)))
+    sym (commit-shaped s (k .before .pre .0) (λ j. omega (arith, k .shared-slice-known .given j)) (k .before .pre .1)
+    ∙ rw (
+      eq-eqb _ 0 (c .before .before .before .before .before .before .if1 .left),
+      le-leb (twoAt s 2) 32
+          (omega (arith, e, c .before .before .before .before .if2 .left)),
+      eq-eqb _ 0 (c .before .before .if3 .left),
+      sym (c .before .zeros .ensures)
+          ∙ not-true _ (c .if4 .taken),
+    ))
 
 lines-shape-requires : tie.Need-lines-shape-requires
 lines-shape-requires c κs = search needs
@@ -62,8 +77,18 @@ returns-5 c =
     let k = c .before .before .before .before .before .before .before .before .before .before in
     let s = k .before .args .s .now in
     let e = c .before .before .before .before .before .before .before .two-at .ensures .0 in
-    let l : (t : Bool) → c .before .lines-shape .result ≡ t → linesOk (twoAt s 2) (drop 16 s) ≡ t = λ t q. ap (λ (x : ℕ). linesOk x (drop 16 s)) (sym e) ∙ sym (c .before .lines-shape .ensures) ∙ q in
-    sym (commit-shaped s (k .before .pre .0) (λ j. omega (arith, k .shared-slice-known .given j)) (k .before .pre .1) ∙ rw (eq-eqb _ 0 (c .before .before .before .before .before .before .before .before .if1 .left), le-leb (twoAt s 2) 32 (omega (arith, e, c .before .before .before .before .before .before .if2 .left)), eq-eqb _ 0 (c .before .before .before .before .if3 .left), sym (c .before .before .before .zeros .ensures) ∙ not-false _ (c .before .before .if4 .left), l false (not-true _ (c .if5 .taken))))
+    let l : (t : Bool) → c .before .lines-shape .result ≡ t → linesOk (twoAt s 2) (drop 16 s) ≡ t = λ t q. ap (λ (x : ℕ). linesOk x (drop 16 s)) (sym e)
+    ∙ sym (c .before .lines-shape .ensures) ∙ q in
+    sym (commit-shaped s (k .before .pre .0) (λ j. omega (arith, k .shared-slice-known .given j)) (k .before .pre .1)
+    ∙ rw (
+      eq-eqb _ 0 (c .before .before .before .before .before .before .before .before .if1 .left),
+      le-leb (twoAt s 2) 32
+          (omega (arith, e, c .before .before .before .before .before .before .if2 .left)),
+      eq-eqb _ 0 (c .before .before .before .before .if3 .left),
+      sym
+          (c .before .before .before .zeros .ensures) ∙ not-false _ (c .before .before .if4 .left),
+      l false (not-true _ (c .if5 .taken)),
+    ))
 
 mul-zeros : tie.Need-mul-zeros
 mul-zeros c = search needs
@@ -82,8 +107,19 @@ returns-6 c =
     let n = c .before .before .before .before .before .before .before .before .two-at .result in
     let a : 16 + 8 * n ≡ 16 + 8 * twoAt s 2 = omega (arith, e) in
     let d : 508 - (16 + 8 * n) ≡ 492 - 8 * twoAt s 2 = omega (arith, e) in
-    let l : linesOk (twoAt s 2) (drop 16 s) ≡ true = ap (λ (x : ℕ). linesOk x (drop 16 s)) (sym e) ∙ sym (c .before .before .lines-shape .ensures) ∙ not-false _ (c .before .if5 .left) in
-    c .zeros2 .ensures ∙ ap₂ (λ (x y : ℕ). zeroFrom s x y) a d ∙ sym (commit-shaped s (k .before .pre .0) (λ j. omega (arith, k .shared-slice-known .given j)) (k .before .pre .1) ∙ rw (eq-eqb _ 0 (c .before .before .before .before .before .before .before .before .before .if1 .left), le-leb (twoAt s 2) 32 (omega (arith, e, c .before .before .before .before .before .before .before .if2 .left)), eq-eqb _ 0 (c .before .before .before .before .before .if3 .left), sym (c .before .before .before .before .zeros .ensures) ∙ not-false _ (c .before .before .before .if4 .left), l))
+    let l : linesOk (twoAt s 2) (drop 16 s) ≡ true = ap (λ (x : ℕ). linesOk x (drop 16 s)) (sym e) ∙ sym (c .before .before .lines-shape .ensures)
+    ∙ not-false _ (c .before .if5 .left) in
+    c .zeros2 .ensures ∙ ap₂ (λ (x y : ℕ). zeroFrom s x y) a d
+    ∙ sym (commit-shaped s (k .before .pre .0) (λ j. omega (arith, k .shared-slice-known .given j)) (k .before .pre .1)
+    ∙ rw (
+      eq-eqb _ 0 (c .before .before .before .before .before .before .before .before .before .if1 .left),
+      le-leb (twoAt s 2) 32
+          (omega (arith, e, c .before .before .before .before .before .before .before .if2 .left)),
+      eq-eqb _ 0 (c .before .before .before .before .before .if3 .left),
+      sym
+          (c .before .before .before .before .zeros .ensures) ∙ not-false _ (c .before .before .before .if4 .left),
+      l,
+    ))
 
 pub commit-shape-spec : {M : Type 1} → statement M
 commit-shape-spec =

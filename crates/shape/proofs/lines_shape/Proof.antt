@@ -46,7 +46,8 @@ returns-2 : tie.Need-returns-2 Inv-loop μ-loop
 returns-2 c =
     let k = c .before .before .before .before .before .before in
     let l = c .before .before .before .before .before .loop in
-    sym (sym (lines-all (k .args .s .now) (k .args .m)) ∙ sym (l .inv .1) ∙ lines-step (k .args .s .now) (k .args .m) (l .j) (omega arith) ∙ rw (le-leb 1 _ (c .before .before .if1 .left), lt-leb _ 4 (c .if2 .taken)))
+    sym (sym (lines-all (k .args .s .now) (k .args .m)) ∙ sym (l .inv .1) ∙ lines-step (k .args .s .now) (k .args .m) (l .j) (omega arith)
+    ∙ rw (le-leb 1 _ (c .before .before .if1 .left), lt-leb _ 4 (c .if2 .taken)))
 
 add-if3 : tie.Need-add-if3 Inv-loop μ-loop
 add-if3 c = search needs
@@ -58,7 +59,8 @@ returns-3 : tie.Need-returns-3 Inv-loop μ-loop
 returns-3 c =
     let k = c .before .before .before .before .before .before .before .before in
     let l = c .before .before .before .before .before .before .before .loop in
-    sym (sym (lines-all (k .args .s .now) (k .args .m)) ∙ sym (l .inv .1) ∙ lines-step (k .args .s .now) (k .args .m) (l .j) (omega arith) ∙ rw (le-leb 1 _ (c .before .before .before .before .if1 .left), le-leb _ 4 (c .before .before .if2 .left), ne-eqb _ 0 (c .if3 .taken)))
+    sym (sym (lines-all (k .args .s .now) (k .args .m)) ∙ sym (l .inv .1) ∙ lines-step (k .args .s .now) (k .args .m) (l .j) (omega arith)
+    ∙ rw (le-leb 1 _ (c .before .before .before .before .if1 .left), le-leb _ 4 (c .before .before .if2 .left), ne-eqb _ 0 (c .if3 .taken)))
 
 add-j : tie.Need-add-j Inv-loop μ-loop
 add-j c = search needs
@@ -69,8 +71,11 @@ loop-less c = search needs
 loop-again : tie.Need-loop-again Inv-loop μ-loop
 loop-again c =
     let k = c .before .before .before .before .before .before .before .before in
-    let l = c .before .before .before .before .before .before .before .loop in
-    (omega arith, sym (lines-step (k .args .s .now) (k .args .m) (l .j) (omega arith) ∙ rw (le-leb 1 _ (c .before .before .before .before .if1 .left), le-leb _ 4 (c .before .before .if2 .left), eq-eqb _ 0 (c .if3 .left))) ∙ l .inv .1)
+    let l = c .before .before .before .before .before .before .before .loop in (
+      omega arith,
+      sym (lines-step (k .args .s .now) (k .args .m) (l .j) (omega arith)
+          ∙ rw (le-leb 1 _ (c .before .before .before .before .if1 .left), le-leb _ 4 (c .before .before .if2 .left), eq-eqb _ 0 (c .if3 .left))) ∙ l .inv .1,
+    )
 
 returns-4 : tie.Need-returns-4 Inv-loop μ-loop
 returns-4 c =

@@ -15,7 +15,10 @@ use Rattle.shape.proofs.one_each.Statement.{statement}
 use Rattle.shape.proofs.one_each.Tie as tie
 
 abbrev Inv-loop : tie.InvT-loop
-Inv-loop s base m at k i₀ i = (i ≤ k) × (allFrom (λ (p : ℕ). eqb (pointed p (parseLines m (drop base s))) 1) (at + i) (k - i) ≡ allFrom (λ (p : ℕ). eqb (pointed p (parseLines m (drop base s))) 1) at k)
+Inv-loop s base m at k i₀ i =
+    (i ≤ k)
+    × (allFrom (λ (p : ℕ). eqb (pointed p (parseLines m (drop base s))) 1) (at + i) (k - i)
+    ≡ allFrom (λ (p : ℕ). eqb (pointed p (parseLines m (drop base s))) 1) at k)
 
 abbrev μ-loop : tie.MeasureT-loop
 μ-loop s base m at k i₀ i = k - i
@@ -36,7 +39,8 @@ returns : tie.Need-returns Inv-loop μ-loop
 returns c =
     let a = c .before .before .before .before .before .args in
     let l = c .before .before .before .loop in
-    sym (sym (l .inv .1) ∙ all-step (λ (p : ℕ). eqb (pointed p (parseLines (a .m) (drop (a .base) (a .s .now)))) 1) (a .at) (a .k) (l .i) (omega arith) ∙ rw (ne-eqb _ 1 (λ e. c .if1 .taken (c .before .pointers .ensures ∙ e))))
+    sym (sym (l .inv .1) ∙ all-step (λ (p : ℕ). eqb (pointed p (parseLines (a .m) (drop (a .base) (a .s .now)))) 1) (a .at) (a .k) (l .i) (omega arith)
+    ∙ rw (ne-eqb _ 1 (λ e. c .if1 .taken (c .before .pointers .ensures ∙ e))))
 
 add-i : tie.Need-add-i Inv-loop μ-loop
 add-i c = search needs
@@ -47,8 +51,11 @@ loop-less c = search needs
 loop-again : tie.Need-loop-again Inv-loop μ-loop
 loop-again c =
     let a = c .before .before .before .before .before .args in
-    let l = c .before .before .before .loop in
-    (omega arith, sym (all-step (λ (p : ℕ). eqb (pointed p (parseLines (a .m) (drop (a .base) (a .s .now)))) 1) (a .at) (a .k) (l .i) (omega arith) ∙ rw (eq-eqb _ 1 (sym (c .before .pointers .ensures) ∙ c .if1 .left))) ∙ l .inv .1)
+    let l = c .before .before .before .loop in (
+      omega arith,
+      sym (all-step (λ (p : ℕ). eqb (pointed p (parseLines (a .m) (drop (a .base) (a .s .now)))) 1) (a .at) (a .k) (l .i) (omega arith)
+          ∙ rw (eq-eqb _ 1 (sym (c .before .pointers .ensures) ∙ c .if1 .left))) ∙ l .inv .1,
+    )
 
 returns-2 : tie.Need-returns-2 Inv-loop μ-loop
 returns-2 c =

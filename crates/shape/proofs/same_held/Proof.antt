@@ -49,7 +49,8 @@ returns-2 c =
     let k = c .before .before .before .before .before .before .before .before .before .before in
     let l = c .before .before .before .before .loop in
     let es : l .i < length (held (parse (k .args .s .now))) = omega (arith, c .before .before .before .before .before .before .before .size .ensures .0) in
-    let et : l .i < length (held (parse (k .args .t .now))) = omega (arith, c .before .before .before .before .before .before .size2 .ensures .0, c .before .before .before .before .before .if1 .left) in
+    let et : l .i < length (held (parse (k .args .t .now))) =
+    omega (arith, c .before .before .before .before .before .before .size2 .ensures .0, c .before .before .before .before .before .if1 .left) in
     let p = held-at (k .args .s .now) (k .pre .0) (l .i) es in
     let q = held-at (k .args .t .now) (k .pre .1) (l .i) et in
     let st = same-step (held (parse (k .args .s .now))) (held (parse (k .args .t .now))) (l .i) es et in
@@ -66,7 +67,8 @@ loop-again c =
     let k = c .before .before .before .before .before .before .before .before .before .before in
     let l = c .before .before .before .before .loop in
     let es : l .i < length (held (parse (k .args .s .now))) = omega (arith, c .before .before .before .before .before .before .before .size .ensures .0) in
-    let et : l .i < length (held (parse (k .args .t .now))) = omega (arith, c .before .before .before .before .before .before .size2 .ensures .0, c .before .before .before .before .before .if1 .left) in
+    let et : l .i < length (held (parse (k .args .t .now))) =
+    omega (arith, c .before .before .before .before .before .before .size2 .ensures .0, c .before .before .before .before .before .if1 .left) in
     let p = held-at (k .args .s .now) (k .pre .0) (l .i) es in
     let q = held-at (k .args .t .now) (k .pre .1) (l .i) et in
     let st = same-step (held (parse (k .args .s .now))) (held (parse (k .args .t .now))) (l .i) es et in
@@ -77,7 +79,8 @@ returns-3 c =
     let k = c .before .before .before .before .before .before .before in
     let l = c .before .loop in
     let es : length (held (parse (k .args .s .now))) ≤ l .i = omega (arith, c .before .before .before .before .size .ensures .0) in
-    let et : length (held (parse (k .args .t .now))) ≤ l .i = omega (arith, c .before .before .before .before .size .ensures .0, c .before .before .before .size2 .ensures .0, c .before .before .if1 .left) in
+    let et : length (held (parse (k .args .t .now))) ≤ l .i =
+    omega (arith, c .before .before .before .before .size .ensures .0, c .before .before .before .size2 .ensures .0, c .before .before .if1 .left) in
     sym (sym (l .inv .1) ∙ same-none (held (parse (k .args .s .now))) (held (parse (k .args .t .now))) (l .i) es et)
 
 pub same-held-spec : {M : Type 1} → statement M

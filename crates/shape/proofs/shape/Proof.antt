@@ -37,7 +37,9 @@ zeros-requires : tie.Need-zeros-requires
 zeros-requires c κs = search needs
 
 returns-4 : tie.Need-returns-4
-returns-4 c = let k = c .before .before .before .before .before .before .before .before in c .zeros .ensures ∙ sym (blank-shaped (k .args .s .now) (k .pre) (c .before .before .before .before .before .if1 .left) (c .before .before .before .if2 .left) (c .before .if3 .left))
+returns-4 c = let k = c .before .before .before .before .before .before .before .before in c .zeros .ensures
+    ∙ sym (blank-shaped (k .args .s .now) (k .pre) (c .before .before .before .before .before .if1 .left) (c .before .before .before .if2 .left)
+    (c .before .if3 .left))
 
 pub shape-spec : {M : Type 1} → statement M
 shape-spec =

@@ -20,10 +20,16 @@ cast-n : tie.Need-cast-n
 cast-n c = search needs
 
 returns-2 : tie.Need-returns-2
-returns-2 c = let k = c .before .before .before .before .before in (size-capped (k .args .s .now) (k .pre) (c .before .before .if1 .left) (omega (arith, c .before .two-at .ensures .0, c .if2 .taken)), omega arith)
+returns-2 c = let k = c .before .before .before .before .before in
+    (size-capped (k .args .s .now) (k .pre) (c .before .before .if1 .left) (omega (arith, c .before .two-at .ensures .0, c .if2 .taken)), omega arith)
 
 returns-3 : tie.Need-returns-3
-returns-3 c = let k = c .before .before .before .before .before in let e = c .before .two-at .ensures .0 in (e ∙ size-stated (k .args .s .now) (k .pre) (c .before .before .if1 .left) (omega (arith, e, c .if2 .left)), omega arith)
+returns-3 c = let k = c .before .before .before .before .before in
+    let e = c .before .two-at .ensures .0 in (
+      e
+          ∙ size-stated (k .args .s .now) (k .pre) (c .before .before .if1 .left) (omega (arith, e, c .if2 .left)),
+      omega arith,
+    )
 
 pub size-spec : {M : Type 1} → statement M
 size-spec =

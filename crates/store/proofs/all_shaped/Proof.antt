@@ -37,7 +37,8 @@ part-shape-end : tie.Need-part-shape-end Inv-loop μ-loop
 part-shape-end c = search needs
 
 shape-requires : tie.Need-shape-requires Inv-loop μ-loop
-shape-requires c κs = let a = c .before .before .before .before .args in part-size (a .store .now) (a .n) (c .before .before .loop .p) (c .before .before .before .before .pre) (omega arith)
+shape-requires c κs = let a = c .before .before .before .before .args in part-size (a .store .now) (a .n) (c .before .before .loop .p)
+    (c .before .before .before .before .pre) (omega arith)
 
 returns : tie.Need-returns Inv-loop μ-loop
 returns c =

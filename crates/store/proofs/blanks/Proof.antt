@@ -39,7 +39,8 @@ part-kind-end : tie.Need-part-kind-end Inv-loop μ-loop
 part-kind-end c = search needs
 
 kind-requires : tie.Need-kind-requires Inv-loop μ-loop
-kind-requires c κs = let a = c .before .before .before .before .args in part-size (a .store .now) (a .n) (c .before .before .loop .p) (c .before .before .before .before .pre .0) (omega arith)
+kind-requires c κs = let a = c .before .before .before .before .args in part-size (a .store .now) (a .n) (c .before .before .loop .p)
+    (c .before .before .before .before .pre .0) (omega arith)
 
 returns : tie.Need-returns Inv-loop μ-loop
 returns c =

@@ -26,7 +26,8 @@ all-sealed-requires c κs = omega arith
 returns-4 : tie.Need-returns-4
 returns-4 c =
     let a = c .before .before .before .before .before .before .args in
-    sym (open-unchecked (a .store .now) (c .before .before .before .before .if1 .left) (omega (arith, c .before .before .before .if2 .left)) (omega (arith, c .before .before .if3 .left)) (sym (c .before .all-sealed .ensures) ∙ not-true _ (c .if4 .taken)))
+    sym (open-unchecked (a .store .now) (c .before .before .before .before .if1 .left) (omega (arith, c .before .before .before .if2 .left))
+    (omega (arith, c .before .before .if3 .left)) (sym (c .before .all-sealed .ensures) ∙ not-true _ (c .if4 .taken)))
 
 all-shaped-requires : tie.Need-all-shaped-requires
 all-shaped-requires c κs = omega arith
@@ -34,7 +35,10 @@ all-shaped-requires c κs = omega arith
 returns-5 : tie.Need-returns-5
 returns-5 c =
     let a = c .before .before .before .before .before .before .before .before .args in
-    sym (open-unshaped (a .store .now) (c .before .before .before .before .before .before .if1 .left) (omega (arith, c .before .before .before .before .before .if2 .left)) (omega (arith, c .before .before .before .before .if3 .left)) (sym (c .before .before .before .all-sealed .ensures) ∙ not-false _ (c .before .before .if4 .left)) (sym (c .before .all-shaped .ensures) ∙ not-true _ (c .if5 .taken)))
+    sym (open-unshaped (a .store .now) (c .before .before .before .before .before .before .if1 .left)
+    (omega (arith, c .before .before .before .before .before .if2 .left)) (omega (arith, c .before .before .before .before .if3 .left))
+    (sym (c .before .before .before .all-sealed .ensures) ∙ not-false _ (c .before .before .if4 .left))
+    (sym (c .before .all-shaped .ensures) ∙ not-true _ (c .if5 .taken)))
 
 sub-kind : tie.Need-sub-kind
 sub-kind c = search needs
@@ -46,12 +50,18 @@ part-kind-end : tie.Need-part-kind-end
 part-kind-end c = search needs
 
 kind-requires : tie.Need-kind-requires
-kind-requires c κs = let a = c .before .before .before .before .before .before .before .before .before .args in part-size (a .store .now) (length (a .store .now) / 512) 0 (omega arith) (omega arith)
+kind-requires c κs = let a = c .before .before .before .before .before .before .before .before .before .args in part-size (a .store .now)
+    (length (a .store .now) / 512) 0 (omega arith) (omega arith)
 
 returns-6 : tie.Need-returns-6
 returns-6 c =
     let a = c .before .before .before .before .before .before .before .before .before .before .before .args in
-    sym (open-unlabelled (a .store .now) (c .before .before .before .before .before .before .before .before .before .if1 .left) (omega (arith, c .before .before .before .before .before .before .before .before .if2 .left)) (omega (arith, c .before .before .before .before .before .before .before .if3 .left)) (sym (c .before .before .before .before .before .before .all-sealed .ensures) ∙ not-false _ (c .before .before .before .before .before .if4 .left)) (sym (c .before .before .before .before .all-shaped .ensures) ∙ not-false _ (c .before .before .before .if5 .left)) (λ e. c .if6 .taken (c .before .kind .ensures ∙ e)))
+    sym (open-unlabelled (a .store .now) (c .before .before .before .before .before .before .before .before .before .if1 .left)
+    (omega (arith, c .before .before .before .before .before .before .before .before .if2 .left))
+    (omega (arith, c .before .before .before .before .before .before .before .if3 .left))
+    (sym (c .before .before .before .before .before .before .all-sealed .ensures) ∙ not-false _ (c .before .before .before .before .before .if4 .left))
+    (sym (c .before .before .before .before .all-shaped .ensures) ∙ not-false _ (c .before .before .before .if5 .left))
+    (λ e. c .if6 .taken (c .before .kind .ensures ∙ e)))
 
 pass-small-requires : tie.Need-pass-small-requires
 pass-small-requires c κs = (omega arith, omega arith, omega arith)
@@ -60,7 +70,13 @@ returns-7 : tie.Need-returns-7
 returns-7 c =
     let a = c .before .before .before .before .before .before .before .before .before .before .before .before .before .args in
     c .pass-small .ensures
-    ∙ open-passed (a .store .now) (c .before .before .before .before .before .before .before .before .before .before .before .if1 .left) (omega (arith, c .before .before .before .before .before .before .before .before .before .before .if2 .left)) (omega (arith, c .before .before .before .before .before .before .before .before .before .if3 .left)) (sym (c .before .before .before .before .before .before .before .before .all-sealed .ensures) ∙ not-false _ (c .before .before .before .before .before .before .before .if4 .left)) (sym (c .before .before .before .before .before .before .all-shaped .ensures) ∙ not-false _ (c .before .before .before .before .before .if5 .left)) (sym (c .before .before .before .kind .ensures) ∙ c .before .before .if6 .left)
+    ∙ open-passed (a .store .now) (c .before .before .before .before .before .before .before .before .before .before .before .if1 .left)
+    (omega (arith, c .before .before .before .before .before .before .before .before .before .before .if2 .left))
+    (omega (arith, c .before .before .before .before .before .before .before .before .before .if3 .left))
+    (sym (c .before .before .before .before .before .before .before .before .all-sealed .ensures)
+    ∙ not-false _ (c .before .before .before .before .before .before .before .if4 .left))
+    (sym (c .before .before .before .before .before .before .all-shaped .ensures) ∙ not-false _ (c .before .before .before .before .before .if5 .left))
+    (sym (c .before .before .before .kind .ensures) ∙ c .before .before .if6 .left)
 
 pass-large-requires : tie.Need-pass-large-requires
 pass-large-requires c κs = (omega arith, omega arith, omega arith)
@@ -69,7 +85,13 @@ returns-8 : tie.Need-returns-8
 returns-8 c =
     let a = c .before .before .before .before .before .before .before .before .before .before .before .before .before .args in
     c .pass-large .ensures
-    ∙ open-passed (a .store .now) (c .before .before .before .before .before .before .before .before .before .before .before .if1 .left) (omega (arith, c .before .before .before .before .before .before .before .before .before .before .if2 .left)) (omega (arith, c .before .before .before .before .before .before .before .before .before .if3 .left)) (sym (c .before .before .before .before .before .before .before .before .all-sealed .ensures) ∙ not-false _ (c .before .before .before .before .before .before .before .if4 .left)) (sym (c .before .before .before .before .before .before .all-shaped .ensures) ∙ not-false _ (c .before .before .before .before .before .if5 .left)) (sym (c .before .before .before .kind .ensures) ∙ c .before .before .if6 .left)
+    ∙ open-passed (a .store .now) (c .before .before .before .before .before .before .before .before .before .before .before .if1 .left)
+    (omega (arith, c .before .before .before .before .before .before .before .before .before .before .if2 .left))
+    (omega (arith, c .before .before .before .before .before .before .before .before .before .if3 .left))
+    (sym (c .before .before .before .before .before .before .before .before .all-sealed .ensures)
+    ∙ not-false _ (c .before .before .before .before .before .before .before .if4 .left))
+    (sym (c .before .before .before .before .before .before .all-shaped .ensures) ∙ not-false _ (c .before .before .before .before .before .if5 .left))
+    (sym (c .before .before .before .kind .ensures) ∙ c .before .before .if6 .left)
 
 pub open-spec : {M : Type 1} → statement M
 open-spec =

@@ -17,7 +17,9 @@ use Rattle.store.specs.Opened.{passed, passedAll}
 use Rattle.store.proofs.pass.Tie as tie
 
 abbrev Inv-loop : tie.InvT-loop
-Inv-loop store n tab₀ at₀ k₀ last₀ tab at k last = (last < at) × (at + k ≤ n) × (length tab ≡ length tab₀) × (passed (bytesAt (blocksOf n store)) at k (rowsOf (last + 1) tab) (drop (at + k) (blocksOf n store)) ≡ passedAll n store)
+Inv-loop store n tab₀ at₀ k₀ last₀ tab at k last =
+    (last < at) × (at + k ≤ n) × (length tab ≡ length tab₀)
+    × (passed (bytesAt (blocksOf n store)) at k (rowsOf (last + 1) tab) (drop (at + k) (blocksOf n store)) ≡ passedAll n store)
 
 abbrev μ-loop : tie.MeasureT-loop
 μ-loop store n tab₀ at₀ k₀ last₀ tab at k last = n - (at + k)
@@ -62,8 +64,10 @@ same-length c = search needs
 returns : tie.Need-returns Inv-loop μ-loop
 returns c =
     let a = c .before .before .before .before .before .before .before .before .args in
+    let look = bytesAt (blocksOf (a .n) (a .store .now)) in
     let l = c .before .before .before .before .before .loop in
-    c .finish .ensures ∙ sym (sym (l .inv .3) ∙ turn-blank (bytesAt (blocksOf (a .n) (a .store .now))) (a .n) (a .store .now) (l .at) (l .k) (l .last) (l .tab) (omega arith) (sym (c .before .before .kind .ensures) ∙ c .before .if1 .taken))
+    c .finish .ensures ∙ sym (sym (l .inv .3)
+    ∙ turn-blank look (a .n) (a .store .now) (l .at) (l .k) (l .last) (l .tab) (omega arith) (sym (c .before .before .kind .ensures) ∙ c .before .if1 .taken))
 
 same-length-2 : tie.Need-same-length-2 Inv-loop μ-loop
 same-length-2 c = search needs
@@ -71,8 +75,9 @@ same-length-2 c = search needs
 returns-2 : tie.Need-returns-2 Inv-loop μ-loop
 returns-2 c =
     let a = c .before .before .before .before .before .before .before .before .args in
+    let look = bytesAt (blocksOf (a .n) (a .store .now)) in
     let l = c .before .before .before .before .before .loop in
-    sym (sym (l .inv .3) ∙ turn-label (bytesAt (blocksOf (a .n) (a .store .now))) (a .n) (a .store .now) (l .at) (l .k) (l .last) (l .tab) (omega arith) (sym (c .before .before .kind .ensures) ∙ c .if2 .taken))
+    sym (sym (l .inv .3) ∙ turn-label look (a .n) (a .store .now) (l .at) (l .k) (l .last) (l .tab) (omega arith) (sym (c .before .before .kind .ensures) ∙ c .if2 .taken))
 
 two-at-requires : tie.Need-two-at-requires Inv-loop μ-loop
 two-at-requires c κs = search needs
@@ -89,8 +94,11 @@ same-length-3 c = search needs
 returns-3 : tie.Need-returns-3 Inv-loop μ-loop
 returns-3 c =
     let a = c .before .before .before .before .before .before .before .before .before .before .args in
+    let look = bytesAt (blocksOf (a .n) (a .store .now)) in
     let l = c .before .before .before .before .before .before .before .loop in
-    sym (sym (l .inv .3) ∙ turn-revision (bytesAt (blocksOf (a .n) (a .store .now))) (a .n) (a .store .now) (l .at) (l .k) (l .last) (l .tab) (omega arith) (λ e. c .before .before .before .if1 .left (c .before .before .before .before .kind .ensures ∙ e)) (λ e. c .before .before .if2 .left (c .before .before .before .before .kind .ensures ∙ e)) (λ e. c .if3 .taken (c .before .two-at .ensures .0 ∙ e)))
+    sym (sym (l .inv .3) ∙ turn-revision look (a .n) (a .store .now) (l .at) (l .k) (l .last) (l .tab) (omega arith)
+    (λ e. c .before .before .before .if1 .left (c .before .before .before .before .kind .ensures ∙ e))
+    (λ e. c .before .before .if2 .left (c .before .before .before .before .kind .ensures ∙ e)) (λ e. c .if3 .taken (c .before .two-at .ensures .0 ∙ e)))
 
 add-k : tie.Need-add-k Inv-loop μ-loop
 add-k c = search needs
@@ -101,15 +109,25 @@ loop-less c = search needs
 loop-again : tie.Need-loop-again Inv-loop μ-loop
 loop-again c =
     let a = c .before .before .before .before .before .before .before .before .before .before .before .args in
-    let l = c .before .before .before .before .before .before .before .before .loop in
-    (omega arith, omega arith, l .inv .2, sym (turn-content (bytesAt (blocksOf (a .n) (a .store .now))) (a .n) (a .store .now) (l .at) (l .k) (l .last) (l .tab) (omega arith) (sym (c .before .before .before .before .before .kind .ensures) ∙ c .if4 .taken) (sym (c .before .before .two-at .ensures .0) ∙ c .before .if3 .left)) ∙ l .inv .3)
+    let look = bytesAt (blocksOf (a .n) (a .store .now)) in
+    let l = c .before .before .before .before .before .before .before .before .loop in (
+      omega arith,
+      omega arith,
+      l .inv .2,
+      sym
+          (turn-content look (a .n) (a .store .now) (l .at) (l .k) (l .last) (l .tab) (omega arith)
+          (sym (c .before .before .before .before .before .kind .ensures) ∙ c .if4 .taken) (sym (c .before .before .two-at .ensures .0) ∙ c .before .if3 .left))
+          ∙ l .inv .3,
+    )
 
 laid-at-requires : tie.Need-laid-at-requires Inv-loop μ-loop
 laid-at-requires c κs =
     let a = c .before .before .before .before .before .before .before .before .before .before .before .before .args in
     let l = c .before .before .before .before .before .before .before .before .before .loop in
-    let P = c .before .before .before .before .before .before .before .before .before .before .before .before .pre in
-    (record { whole = P .whole; few = P .few; room = omega (arith, P .room, l .inv .2); within = omega arith }, (part-size (a .store .now) (a .n) (l .at + l .k) (P .whole) (omega arith)))
+    let P = c .before .before .before .before .before .before .before .before .before .before .before .before .pre in (
+      record { whole = P .whole; few = P .few; room = omega (arith, P .room, l .inv .2); within = omega arith },
+      (part-size (a .store .now) (a .n) (l .at + l .k) (P .whole) (omega arith)),
+    )
 
 same-length-4 : tie.Need-same-length-4 Inv-loop μ-loop
 same-length-4 c = search needs
@@ -117,8 +135,16 @@ same-length-4 c = search needs
 returns-4 : tie.Need-returns-4 Inv-loop μ-loop
 returns-4 c =
     let a = c .before .before .before .before .before .before .before .before .before .before .before .before .before .before .args in
+    let look = bytesAt (blocksOf (a .n) (a .store .now)) in
     let l = c .before .before .before .before .before .before .before .before .before .before .before .loop in
-    sym (sym (l .inv .3) ∙ turn-unlaid (bytesAt (blocksOf (a .n) (a .store .now))) (a .n) (a .store .now) (l .at) (l .k) (l .last) (l .tab) (omega arith) (kind-three (lent (a .store .now) (l .at + l .k)) (λ e. c .before .before .before .before .before .before .before .if1 .left (c .before .before .before .before .before .before .before .before .kind .ensures ∙ e)) (λ e. c .before .before .before .before .before .before .if2 .left (c .before .before .before .before .before .before .before .before .kind .ensures ∙ e)) (λ e. c .before .before .before .if4 .left (c .before .before .before .before .before .before .before .before .kind .ensures ∙ e))) (sym (c .before .before .before .before .before .two-at .ensures .0) ∙ c .before .before .before .before .if3 .left) (sym (c .before .laid-at .ensures) ∙ not-true _ (c .if5 .taken)))
+    sym (sym (l .inv .3) ∙ turn-unlaid look (a .n) (a .store .now) (l .at) (l .k) (l .last) (l .tab) (omega arith)
+    (kind-three (lent (a .store .now) (l .at + l .k))
+    (λ e. c .before .before .before .before .before .before .before .if1 .left
+    (c .before .before .before .before .before .before .before .before .kind .ensures ∙ e))
+    (λ e. c .before .before .before .before .before .before .if2 .left (c .before .before .before .before .before .before .before .before .kind .ensures ∙ e))
+    (λ e. c .before .before .before .if4 .left (c .before .before .before .before .before .before .before .before .kind .ensures ∙ e)))
+    (sym (c .before .before .before .before .before .two-at .ensures .0) ∙ c .before .before .before .before .if3 .left)
+    (sym (c .before .laid-at .ensures) ∙ not-true _ (c .if5 .taken)))
 
 two-at-requires-2 : tie.Need-two-at-requires-2 Inv-loop μ-loop
 two-at-requires-2 c κs = search needs
@@ -132,10 +158,13 @@ add-last c = search needs
 grow-requires : tie.Need-grow-requires Inv-loop μ-loop
 grow-requires c κs =
     let a = c .before .before .before .before .before .before .before .before .before .before .before .before .before .before .before .before .args in
+    let look = bytesAt (blocksOf (a .n) (a .store .now)) in
     let l = c .before .before .before .before .before .before .before .before .before .before .before .before .before .loop in
     let P = c .before .before .before .before .before .before .before .before .before .before .before .before .before .before .before .before .pre in
-    laid-grows (bytesAt (blocksOf (a .n) (a .store .now))) (l .at) (l .k) (rowsOf (l .last + 1) (l .tab)) (getD (lent (a .store .now) (l .at + l .k)) 6 0) (l .tab) (lent (a .store .now) (l .at + l .k)) (l .last + 1) (c .before .two-at2 .result)
-    (omega arith) (omega (arith, P .room, l .inv .2)) (part-size (a .store .now) (a .n) (l .at + l .k) (P .whole) (omega arith)) (c .before .two-at2 .ensures .0) (sym (c .before .before .before .laid-at .ensures) ∙ not-false _ (c .before .before .if5 .left))
+    laid-grows look (l .at) (l .k) (rowsOf (l .last + 1) (l .tab)) (getD (lent (a .store .now) (l .at + l .k)) 6 0) (l .tab) (lent (a .store .now) (l .at + l .k))
+    (l .last + 1) (c .before .two-at2 .result)
+    (omega arith) (omega (arith, P .room, l .inv .2)) (part-size (a .store .now) (a .n) (l .at + l .k) (P .whole) (omega arith)) (c .before .two-at2 .ensures .0)
+    (sym (c .before .before .before .laid-at .ensures) ∙ not-false _ (c .before .before .if5 .left))
 
 add-at : tie.Need-add-at Inv-loop μ-loop
 add-at c = search needs
@@ -146,12 +175,25 @@ loop-less-2 c = search needs
 loop-again-2 : tie.Need-loop-again-2 Inv-loop μ-loop
 loop-again-2 c =
     let a = c .before .before .before .before .before .before .before .before .before .before .before .before .before .before .before .before .before .before .before .args in
+    let look = bytesAt (blocksOf (a .n) (a .store .now)) in
     let l = c .before .before .before .before .before .before .before .before .before .before .before .before .before .before .before .before .loop in
     let g = c .before .before .grow in (
       omega arith,
       omega arith,
       search needs,
-      sym (turn-commit (bytesAt (blocksOf (a .n) (a .store .now))) (a .n) (a .store .now) (l .at) (l .k) (l .last) (l .tab) (omega arith) (kind-three (lent (a .store .now) (l .at + l .k)) (λ e. c .before .before .before .before .before .before .before .before .before .before .before .before .if1 .left (c .before .before .before .before .before .before .before .before .before .before .before .before .before .kind .ensures ∙ e)) (λ e. c .before .before .before .before .before .before .before .before .before .before .before .if2 .left (c .before .before .before .before .before .before .before .before .before .before .before .before .before .kind .ensures ∙ e)) (λ e. c .before .before .before .before .before .before .before .before .if4 .left (c .before .before .before .before .before .before .before .before .before .before .before .before .before .kind .ensures ∙ e))) (sym (c .before .before .before .before .before .before .before .before .before .before .two-at .ensures .0) ∙ c .before .before .before .before .before .before .before .before .before .if3 .left) (c .before .before .before .before .two-at2 .result) (g .last .0) (c .before .before .before .before .two-at2 .ensures .0) (sym (c .before .before .before .before .before .before .laid-at .ensures) ∙ not-false _ (c .before .before .before .before .before .if5 .left)) (g .ensures)) ∙ l .inv .3,
+      sym (turn-commit look (a .n) (a .store .now) (l .at) (l .k) (l .last) (l .tab) (omega arith)
+          (kind-three (lent (a .store .now) (l .at + l .k))
+          (λ e. c .before .before .before .before .before .before .before .before .before .before .before .before .if1 .left
+          (c .before .before .before .before .before .before .before .before .before .before .before .before .before .kind .ensures ∙ e))
+          (λ e. c .before .before .before .before .before .before .before .before .before .before .before .if2 .left
+          (c .before .before .before .before .before .before .before .before .before .before .before .before .before .kind .ensures ∙ e))
+          (λ e. c .before .before .before .before .before .before .before .before .if4 .left
+          (c .before .before .before .before .before .before .before .before .before .before .before .before .before .kind .ensures ∙ e)))
+          (sym (c .before .before .before .before .before .before .before .before .before .before .two-at .ensures .0)
+          ∙ c .before .before .before .before .before .before .before .before .before .if3 .left) (c .before .before .before .before .two-at2 .result) (g .last .0)
+          (c .before .before .before .before .two-at2 .ensures .0)
+          (sym (c .before .before .before .before .before .before .laid-at .ensures) ∙ not-false _ (c .before .before .before .before .before .if5 .left)) (g .ensures))
+          ∙ l .inv .3,
     )
 
 finish-requires-2 : tie.Need-finish-requires-2 Inv-loop μ-loop
@@ -163,8 +205,9 @@ same-length-5 c = search needs
 returns-5 : tie.Need-returns-5 Inv-loop μ-loop
 returns-5 c =
     let a = c .before .before .before .before .before .args in
+    let look = bytesAt (blocksOf (a .n) (a .store .now)) in
     let l = c .before .before .loop in
-    c .finish2 .ensures ∙ sym (sym (l .inv .3) ∙ turn-end (bytesAt (blocksOf (a .n) (a .store .now))) (a .n) (a .store .now) (l .at) (l .k) (l .last) (l .tab) (omega arith))
+    c .finish2 .ensures ∙ sym (sym (l .inv .3) ∙ turn-end look (a .n) (a .store .now) (l .at) (l .k) (l .last) (l .tab) (omega arith))
 
 pub pass-spec : {M : Type 1} → statement M
 pass-spec =

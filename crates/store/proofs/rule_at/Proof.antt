@@ -24,8 +24,10 @@ cast-sheet c = omega (arith, c .shared-slice-known4 .given (c .before .before .b
 returns : tie.Need-returns
 returns c =
     let a = c .before .before .before .before .before .args in
-    sym (ap (rule (bytesAt (blocksOf (a .w .n) (a .store .now))) (a .w .at) (a .w .k) (rowsOf (a .w .last + 1) (a .tab .now))) (line-is (a .b .now) (a .o))
-    ∙ rule-past (bytesAt (blocksOf (a .w .n) (a .store .now))) (a .w) (rowsOf (a .w .last + 1) (a .tab .now)) (getD (a .b .now) (a .o) 0) (twoAt (a .b .now) (a .o + 2)) (getD (a .b .now) (a .o + 4) 0) (twoAt (a .b .now) (a .o + 6)) (getD (a .b .now) (a .o + 1) 0) (c .if1 .taken))
+    let look = bytesAt (blocksOf (a .w .n) (a .store .now)) in
+    sym (ap (rule look (a .w .at) (a .w .k) (rowsOf (a .w .last + 1) (a .tab .now))) (line-is (a .b .now) (a .o))
+    ∙ rule-past look (a .w) (rowsOf (a .w .last + 1) (a .tab .now)) (getD (a .b .now) (a .o) 0) (twoAt (a .b .now) (a .o + 2)) (getD (a .b .now) (a .o + 4) 0)
+    (twoAt (a .b .now) (a .o + 6)) (getD (a .b .now) (a .o + 1) 0) (c .if1 .taken))
 
 mul-old : tie.Need-mul-old
 mul-old c = search needs
@@ -81,9 +83,12 @@ plain-rule-requires c κs = search needs
 returns-2 : tie.Need-returns-2
 returns-2 c =
     let a = c .before .before .before .before .before .before .before .before .before .before .before .before .before .before .args in
-    c .plain-rule .ensures ∙ plain-answer (bytesAt (blocksOf (a .w .n) (a .store .now))) (a .w) (a .tab .now) (a .b .now) (a .o)
-    (getD (a .tab .now) (32 * a .w .last + getD (a .b .now) (a .o) 0) 0) (c .before .before .before .before .before .two-at .result) (getD (a .b .now) (a .o + 4) 0) (c .before .before .before .two-at2 .result)
-    refl (c .before .before .before .before .before .two-at .ensures .0) refl (c .before .before .before .two-at2 .ensures .0) (omega (arith, c .before .before .before .before .before .before .before .before .before .if1 .left)) (c .before .before .if2 .taken) (c .before .if3 .taken)
+    let look = bytesAt (blocksOf (a .w .n) (a .store .now)) in
+    c .plain-rule .ensures ∙ plain-answer look (a .w) (a .tab .now) (a .b .now) (a .o)
+    (getD (a .tab .now) (32 * a .w .last + getD (a .b .now) (a .o) 0) 0) (c .before .before .before .before .before .two-at .result) (getD (a .b .now) (a .o + 4) 0)
+    (c .before .before .before .two-at2 .result)
+    refl (c .before .before .before .before .before .two-at .ensures .0) refl (c .before .before .before .two-at2 .ensures .0)
+    (omega (arith, c .before .before .before .before .before .before .before .before .before .if1 .left)) (c .before .before .if2 .taken) (c .before .if3 .taken)
 
 copy-rule-requires : tie.Need-copy-rule-requires
 copy-rule-requires c κs = search needs
@@ -91,11 +96,14 @@ copy-rule-requires c κs = search needs
 returns-3 : tie.Need-returns-3
 returns-3 c =
     let a = c .before .before .before .before .before .before .before .before .before .before .before .before .before .args in
+    let look = bytesAt (blocksOf (a .w .n) (a .store .now)) in
     let w : (getD (a .b .now) (a .o + 1) 0 ≡ 1 → ⊥) × (getD (a .b .now) (a .o + 1) 0 ≡ 2 → ⊥) × (getD (a .b .now) (a .o + 1) 0 ≡ 3 → ⊥) =
     ⊎-elim (λ w. ((λ e. omega arith), (λ e. omega arith), (λ e. omega arith))) (λ w. ((λ e. omega arith), (λ e. omega arith), (λ e. omega arith))) (c .before .if2 .came) in
-    c .copy-rule .ensures ∙ copy-answer (bytesAt (blocksOf (a .w .n) (a .store .now))) (a .w) (a .tab .now) (a .b .now) (a .o)
-    (getD (a .tab .now) (32 * a .w .last + getD (a .b .now) (a .o) 0) 0) (c .before .before .before .before .two-at .result) (getD (a .b .now) (a .o + 4) 0) (c .before .before .two-at2 .result)
-    refl (c .before .before .before .before .two-at .ensures .0) refl (c .before .before .two-at2 .ensures .0) (omega (arith, c .before .before .before .before .before .before .before .before .if1 .left)) (w .0) (w .1) (w .2)
+    c .copy-rule .ensures ∙ copy-answer look (a .w) (a .tab .now) (a .b .now) (a .o)
+    (getD (a .tab .now) (32 * a .w .last + getD (a .b .now) (a .o) 0) 0) (c .before .before .before .before .two-at .result) (getD (a .b .now) (a .o + 4) 0)
+    (c .before .before .two-at2 .result)
+    refl (c .before .before .before .before .two-at .ensures .0) refl (c .before .before .two-at2 .ensures .0)
+    (omega (arith, c .before .before .before .before .before .before .before .before .if1 .left)) (w .0) (w .1) (w .2)
 
 pub rule-at-spec : {M : Type 1} → statement M
 rule-at-spec =

@@ -18,13 +18,18 @@ use Rattle.store.proofs.rules.Statement.{statement}
 use Rattle.store.proofs.rules.Tie as tie
 
 abbrev Inv-loop : tie.InvT-loop
-Inv-loop store b tab w m j₀ j = (j ≤ m) × (all (rule (bytesAt (blocksOf (w .n) store)) (w .at) (w .k) (rowsOf (w .last + 1) tab)) (left b 16 m j) ≡ all (rule (bytesAt (blocksOf (w .n) store)) (w .at) (w .k) (rowsOf (w .last + 1) tab)) (parseLines m (drop 16 b)))
+Inv-loop store b tab w m j₀ j =
+    (j ≤ m)
+    × (all (rule (bytesAt (blocksOf (w .n) store)) (w .at) (w .k) (rowsOf (w .last + 1) tab)) (left b 16 m j)
+    ≡ all (rule (bytesAt (blocksOf (w .n) store)) (w .at) (w .k) (rowsOf (w .last + 1) tab)) (parseLines m (drop 16 b)))
 
 abbrev μ-loop : tie.MeasureT-loop
 μ-loop store b tab w m j₀ j = m - j
 
 loop-holds : tie.Need-loop-holds Inv-loop μ-loop
-loop-holds c = let a = c .before .before .before .args in (omega arith, ap (all (rule (bytesAt (blocksOf (a .w .n) (a .store .now))) (a .w .at) (a .w .k) (rowsOf (a .w .last + 1) (a .tab .now)))) (left-all (a .b .now) 16 (a .m)))
+loop-holds c = let a = c .before .before .before .args in
+    let look = bytesAt (blocksOf (a .w .n) (a .store .now)) in
+    (omega arith, ap (all (rule look (a .w .at) (a .w .k) (rowsOf (a .w .last + 1) (a .tab .now)))) (left-all (a .b .now) 16 (a .m)))
 
 mul-o : tie.Need-mul-o Inv-loop μ-loop
 mul-o c = search needs
@@ -38,8 +43,10 @@ rule-at-requires c κs = (c .before .before .before .before .before .pre .0, ome
 returns : tie.Need-returns Inv-loop μ-loop
 returns c =
     let a = c .before .before .before .before .before .before .before .args in
+    let look = bytesAt (blocksOf (a .w .n) (a .store .now)) in
     let l = c .before .before .before .loop in
-    change-fails (rule (bytesAt (blocksOf (a .w .n) (a .store .now))) (a .w .at) (a .w .k) (rowsOf (a .w .last + 1) (a .tab .now))) (a .b .now) 16 (a .m) (l .j) _ (l .inv .1) (omega arith) _ (c .before .rule-at .ensures) (not-true _ (c .if1 .taken))
+    change-fails (rule look (a .w .at) (a .w .k) (rowsOf (a .w .last + 1) (a .tab .now))) (a .b .now) 16 (a .m) (l .j) _ (l .inv .1) (omega arith) _
+    (c .before .rule-at .ensures) (not-true _ (c .if1 .taken))
 
 add-j : tie.Need-add-j Inv-loop μ-loop
 add-j c = search needs
@@ -50,14 +57,19 @@ loop-less c = search needs
 loop-again : tie.Need-loop-again Inv-loop μ-loop
 loop-again c =
     let a = c .before .before .before .before .before .before .before .args in
-    let l = c .before .before .before .loop in
-    (omega arith, change-passes (rule (bytesAt (blocksOf (a .w .n) (a .store .now))) (a .w .at) (a .w .k) (rowsOf (a .w .last + 1) (a .tab .now))) (a .b .now) 16 (a .m) (l .j) _ (l .inv .1) (omega arith) _ (c .before .rule-at .ensures) (not-false _ (c .if1 .left)))
+    let look = bytesAt (blocksOf (a .w .n) (a .store .now)) in
+    let l = c .before .before .before .loop in (
+      omega arith,
+      change-passes (rule look (a .w .at) (a .w .k) (rowsOf (a .w .last + 1) (a .tab .now))) (a .b .now) 16 (a .m) (l .j) _ (l .inv .1) (omega arith) _
+          (c .before .rule-at .ensures) (not-false _ (c .if1 .left)),
+    )
 
 returns-2 : tie.Need-returns-2 Inv-loop μ-loop
 returns-2 c =
     let a = c .before .before .before .before .before .args in
+    let look = bytesAt (blocksOf (a .w .n) (a .store .now)) in
     let l = c .before .loop in
-    changes-done (rule (bytesAt (blocksOf (a .w .n) (a .store .now))) (a .w .at) (a .w .k) (rowsOf (a .w .last + 1) (a .tab .now))) (a .b .now) 16 (a .m) (l .j) _ (l .inv .1) (omega arith)
+    changes-done (rule look (a .w .at) (a .w .k) (rowsOf (a .w .last + 1) (a .tab .now))) (a .b .now) 16 (a .m) (l .j) _ (l .inv .1) (omega arith)
 
 pub rules-spec : {M : Type 1} → statement M
 rules-spec =

@@ -34,7 +34,8 @@ returns c =
     let k = c .before .before .before .before in
     let a = k .args in
     ap (λ (x : ℕ). eqb x 0) (c .size .ensures .0)
-    ∙ sym (ap₂ same (bytes-in (a .n) (a .p) (a .store .now) (k .pre .1)) (bytes-past (a .n) (a .q) (a .store .now) (c .before .before .if1 .taken)) ∙ same-nil (held (parse (lent (a .store .now) (a .p)))))
+    ∙ sym (ap₂ same (bytes-in (a .n) (a .p) (a .store .now) (k .pre .1)) (bytes-past (a .n) (a .q) (a .store .now) (c .before .before .if1 .taken))
+    ∙ same-nil (held (parse (lent (a .store .now) (a .p)))))
 
 mul-f : tie.Need-mul-f
 mul-f c = search needs
@@ -61,7 +62,11 @@ part-same-held-end-2 : tie.Need-part-same-held-end-2
 part-same-held-end-2 c = search needs
 
 same-held-requires : tie.Need-same-held-requires
-same-held-requires c κs = let k = c .before .before .before .before in (part-size (k .args .store .now) (k .args .n) (k .args .p) (k .pre .0) (k .pre .1), part-size (k .args .store .now) (k .args .n) (k .args .q) (k .pre .0) (omega arith))
+same-held-requires c κs = let k = c .before .before .before .before in (
+  part-size (k .args .store .now) (k .args .n) (k .args .p) (k .pre .0) (k .pre .1),
+  part-size (k .args .store .now) (k .args .n) (k .args .q) (k .pre .0)
+      (omega arith),
+)
 
 returns-2 : tie.Need-returns-2
 returns-2 c =
