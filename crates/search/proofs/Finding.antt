@@ -27,6 +27,10 @@ use Rattle.search.proofs.Naming.{named-last}
 use Rattle.search.proofs.Revisions.{okAll, passed, used-high}
 use Rattle.search.proofs.Sought.{sought}
 use Rattle.search.specs.Find.{Accepted, Bound, back, foundIn}
+use Rattle.store.proofs.Opening.{open-accepted}
+use Rattle.store.specs.Opened.{openOf}
+use Rattle.store.specs.declared.Header.{Header}
+use Rattle.store.specs.declared.Opened.the-variants.{Open}
 
 absent : (o : Option Bytes) → (o ≡ none) ↔ (present o ≡ false)
 absent none = ((λ e. refl), (λ e. refl))
@@ -48,6 +52,10 @@ tables-low bs t =
     subst (λ (x : List Table). All (Below (length (front bs))) x)
     (sym (front-tables (front bs) (blanks bs) (some-front bs t) (blank-rest bs t)) ∙ ap tablesOf e)
     (tables-below (front bs) (blanks bs) (readAll bs) (no-blank bs) (some-front bs t) L)
+
+-- a store that is open is accepted
+pub open-asked : (s : Bytes) (h : Header) → openOf s ≡ Open h → Accepted s (blockCount s) (h .used)
+open-asked s h e = let w = open-accepted s h e in record { clear = w .0; count = refl; inUse = w .2 }
 
 module _ (s : Bytes) (n used : ℕ) (A : Accepted s n used) where
   all-ok : T (ok (storeBlocks s))

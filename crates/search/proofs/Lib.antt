@@ -4,3 +4,5 @@ pub mod BackLaws
 pub mod Sought
 pub mod Naming
 pub mod Finding
+pub mod DeedLaws
+pub mod Logging

@@ -118,11 +118,6 @@ one-more look i h xs (commit r s q ls) older a k e w =
     ∙ sym (ap (λ (y : History). namerFrom 0 0 y i) (read-snoc look xs (commit r s q ls) a) ∙ namer-append 0 0 (readFrom look xs) (stated look s q ls ∷ []) i)
 one-more look i h xs blank older a k e w = absurd (omega arith)
 
-all-at : (xs : List Block) → Solid xs → (p : ℕ) → p < length xs → 2 ≤ kindOf (getD xs p blank)
-all-at [] a p h = absurd (omega arith)
-all-at (x ∷ xs) a zero h = a .0
-all-at (x ∷ xs) a (suc p) h = all-at xs (a .1) p (omega arith)
-
 back-names : (look : ℕ → List ℕ) (bs : List Block) → T (okFrom look 1 0 (replicate 32 0 ∷ []) bs) → (i : ℕ) → i < 32 → (b : ℕ) → b ≤ usedIn bs
     → back (label ∷ bs) i (suc b) .revision ≡ namerFrom 0 0 (readFrom look (take b bs)) i
 unfolding back readFrom

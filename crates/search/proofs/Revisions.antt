@@ -211,7 +211,7 @@ module _ (s : List ℕ) (n used : ℕ) (A : Passed s n used) where
   used-high = omega (arith, A .inUse, used-few (blocksOf n s), length-blocks n s)
 
   -- the revision that block p states
-  rev-at : (p : ℕ) → 1 ≤ p → p < used → revAt s p ≡ 1 + count (take (p - 1) rest)
+  pub rev-at : (p : ℕ) → 1 ≤ p → p < used → revAt s p ≡ 1 + count (take (p - 1) rest)
   rev-at zero h g = absurd (omega arith)
   rev-at (suc p) h g =
       let b : getD (blocksOf n s) (suc p) blank ≡ parse (lent s (suc p)) = block-at n (suc p) s (omega (arith, used-high)) in

@@ -1,2 +1,3 @@
 -- The definitions that the contracts of `search` cite.
 pub mod Find
+pub mod Deed

@@ -1,9 +1,19 @@
 // Where a sheet of any revision stands in an accepted store, and what a commit did to a sheet. Inner functions: each asks for a store that `store::open` accepts.
+use model::Action;
+use model::LogEntry;
+use model::Source;
 use model::Span;
-ghost use Prim.Native.Nat.{_<_, _≤_};
+ghost use Prim.Native.Nat.{_+_, _<_, _≤_};
 ghost use mathlib.Core.Path.{_≡_};
+ghost use lib.ListN.{drop, length};
+ghost use Rattle.model.specs.Blocks.{parseLine, parseLines};
+ghost use Rattle.model.specs.Calls.{storeSide};
 ghost use Rattle.model.specs.History.{last};
+ghost use Rattle.model.specs.Machine.{Log, doing};
 ghost use Rattle.model.specs.Store.{blockCount, blocksOf, storeHistory};
+ghost use Rattle.model.specs.Types.{answerOf};
+ghost use Rattle.model.specs.declared.Answer.the-variants.{Logged};
+ghost use Rattle.search.specs.Deed.{deedIn, deedOf};
 ghost use Rattle.search.specs.Find.{Accepted, Bound, Spanned, back, foundIn};
 
 // What the last commit that names a sheet says of it: the block that the sheet uses since, 0 for a delete, and the commit's revision. Both are 0 where none names it.
@@ -84,4 +94,61 @@ pub fn span_at(store: &[u8], p: usize) -> Span
     let e = a + 512;
     let len = shape::size(&store[a..e]);
     Span { start: a + 16, len }
+}
+
+// What the change at byte o of a commit block does.
+fn deed_at(b: &[u8], o: usize) -> Action
+    requires { ⌜ o + 8 ≤ length (now b) ⌝ }
+    ensures { λ x. ⌜ x ≡ deedOf (parseLine (drop o (now (b .entry)))) ⌝ }
+{
+    let action = b[o + 1];
+    if action == 1 {
+        return Action::Add;
+    }
+    if action == 2 {
+        return Action::Change;
+    }
+    if action == 3 {
+        return Action::Delete;
+    }
+    let sheet = b[o + 4] as u32;
+    let revision = shape::two_at(b, o + 6);
+    Action::Copy(Source { sheet, revision })
+}
+
+// What the m changes of a commit block do to sheet i.
+fn deed_in(b: &[u8], m: usize, i: usize) -> Action
+    requires { ⌜ (length (now b) ≡ 512) × (m ≤ 32) ⌝ }
+    ensures { λ x. ⌜ x ≡ deedIn i (parseLines m (drop 16 (now (b .entry)))) ⌝ }
+{
+    let mut j: usize = 0;
+    while j < m {
+        let o = 16 + 8 * j;
+        if b[o] as usize == i {
+            return deed_at(b, o);
+        }
+        j += 1;
+    }
+    Action::Nothing
+}
+
+// Seat, stamp and number of changes of commit r, and what it did to sheet i.
+pub fn log_at(store: &[u8], n: usize, used: usize, r: usize, i: usize) -> LogEntry
+    requires { ⌜ Accepted (now store) n used × (1 ≤ r) × (r ≤ last (storeHistory (now store))) × (i < 32) ⌝ }
+    ensures { λ x. ⌜ answerOf (Logged x) ≡ doing (storeSide (now (store .entry))) (Log r i) .0 ⌝ }
+{
+    let p = bound(store, n, used, r) - 1;
+    let a = p * 512;
+    let e = a + 512;
+    let b = &store[a..e];
+    let seat = b[6] as u32;
+    let stamp = block::get32(b, 8);
+    let changes = shape::two_at(b, 2);
+    let action = deed_in(b, changes as usize, i);
+    LogEntry {
+        seat,
+        stamp,
+        changes,
+        action,
+    }
 }
