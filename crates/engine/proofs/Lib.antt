@@ -1,1 +1,4 @@
 pub mod Fresh
+pub mod Refusing
+pub mod Looking
+pub mod Parts
