@@ -2,3 +2,4 @@ pub mod Fresh
 pub mod Refusing
 pub mod Looking
 pub mod Parts
+pub mod Demand2

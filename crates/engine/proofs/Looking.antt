@@ -13,9 +13,7 @@ use Rattle.model.specs.History.{Bytes, last, present, sheet}
 use Rattle.model.specs.Machine.{Log, Read, doing, refused}
 use Rattle.model.specs.Refusals.{_when_, firstOf, noSheet, tooLate}
 use Rattle.model.specs.Store.{blockCount, blockUsed, storeHistory}
-use Rattle.model.specs.Types.{answerOf, numberOf, placeOf}
-use Rattle.model.specs.declared.Answer.the-variants.{Logged}
-use Rattle.model.specs.declared.LogEntry.{LogEntry}
+use Rattle.model.specs.Types.{numberOf, placeOf}
 use Rattle.model.specs.declared.Place.the-variants.{InStore}
 use Rattle.model.specs.declared.Refusal.{Refusal}
 use Rattle.model.specs.declared.Span.{Span}
@@ -102,12 +100,13 @@ module _ (store : Bytes) (R i : ℕ) where
             read-by false true (else-line i (tooLate (storeHistory store) R) false g (early l))
             (ap not (block-lacks store (blockCount store) (h .used) (open-asked store h e) R i within .0 z))
 
-        pub read-there : (p : ℕ) (x : Span) → p ≡ blockUsed store R i → (p ≡ 0 → ⊥) → x ≡ spanOf store p → placeOf (InStore x) ≡ readPlace store R i
-        read-there p x u z s =
-            ap (λ (y : Span). inStore (y .start) (y .len)) s
-            ∙ ap (blockPlace store) u
-            ∙ read-by false false (else-line i (tooLate (storeHistory store) R) false g (early l))
-            (ap (λ o. not (present o)) (block-holds store (blockCount store) (h .used) (open-asked store h e) R i within (λ y. z (u ∙ y))))
+        pub read-found : (blockUsed store R i ≡ 0 → ⊥) → blockPlace store (blockUsed store R i) ≡ readPlace store R i
+        read-found z =
+            read-by false false (else-line i (tooLate (storeHistory store) R) false g (early l))
+            (ap (λ o. not (present o)) (block-holds store (blockCount store) (h .used) (open-asked store h e) R i within z))
 
-        pub log-there : (R ≡ 0 → ⊥) → (x : LogEntry) → answerOf (Logged x) ≡ doing (storeSide store) (Log R i) .0 → answerOf (Logged x) ≡ logCall store R i
-        log-there z x s = s ∙ log-by false (log-range z false (early l))
+        pub read-there : (p : ℕ) (x : Span) → p ≡ blockUsed store R i → (p ≡ 0 → ⊥) → x ≡ spanOf store p → placeOf (InStore x) ≡ readPlace store R i
+        read-there p x u z s = ap (λ (y : Span). inStore (y .start) (y .len)) s ∙ ap (blockPlace store) u ∙ read-found (λ y. z (u ∙ y))
+
+        pub log-there : (R ≡ 0 → ⊥) → doing (storeSide store) (Log R i) .0 ≡ logCall store R i
+        log-there z = log-by false (log-range z false (early l))

@@ -1,5 +1,6 @@
 -- `engine::log_in` meets its contract: one way through the tests at a time.
 -- Assumes nothing.
+use mathlib.Core.Path.{_∙_}
 use native.Mathlib.Omega.{arith}
 use Rattle.engine.proofs.Looking.{last-is, log-late, log-no-sheet, log-there, log-zero}
 use Rattle.engine.proofs.log_in.Statement.{statement}
@@ -30,7 +31,8 @@ log-at-requires c κs =
 returns-4 : tie.Need-returns-4
 returns-4 c =
     let a = c .before .before .before .before .before .before .args in
-    log-there (a .store .now) (a .revision) (a .sheet) (a .h) (c .before .before .before .before .before .before .pre) (c .before .before .before .before .if1 .left) (c .before .if3 .left) (c .before .before .before .if2 .left) (c .log-at .result) (c .log-at .ensures)
+    c .log-at .ensures
+    ∙ log-there (a .store .now) (a .revision) (a .sheet) (a .h) (c .before .before .before .before .before .before .pre) (c .before .before .before .before .if1 .left) (c .before .if3 .left) (c .before .before .before .if2 .left)
 
 pub log-in-spec : {M : Type 1} → statement M
 log-in-spec = tie.close (tie.spec returns returns-2 returns-3 log-at-requires returns-4)
