@@ -21,10 +21,10 @@ use Rattle.model.specs.Calls.{createBy, createStore, freshStore, sizeCondition}
 use Rattle.model.specs.Codec.{encode, joined, padded}
 use Rattle.model.specs.History.{Bytes}
 use Rattle.model.specs.Store.{blockCount}
-use Rattle.laws.proofs.Rows.{not-false, or-false}
 use Rattle.model.specs.Types.{createdAs}
 use Rattle.model.specs.declared.Answer.the-variants.{Done, Refused}
 use Rattle.model.specs.declared.Refusal.the-variants.{StoreLength}
+use Rattle.laws.proofs.Rows.{not-false, or-false}
 
 -- zeros written over all bytes
 pub all-zero : (l : List ℕ) → written 0 (replicate (length l - 0) 0) l ≡ replicate (length l) 0

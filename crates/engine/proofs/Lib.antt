@@ -1,1 +1,5 @@
 pub mod Fresh
+pub mod Refusing
+pub mod Looking
+pub mod Parts
+pub mod Demand2

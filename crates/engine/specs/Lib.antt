@@ -1,0 +1,2 @@
+-- The definitions that the contracts of `engine` cite beside those of `model`.
+pub mod Place

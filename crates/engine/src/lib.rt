@@ -1,10 +1,19 @@
 // Every call of document 01, total: it checks what it is handed in the document's order, and either does its work or answers the refusal and leaves every buffer unchanged.
 // Each promise is one equation with the call's meaning in crates/model/specs/Calls.antt.
 ghost use mathlib.Core.Path.{_≡_};
-ghost use Rattle.model.specs.Calls.{createStore, sizeCondition};
-ghost use Rattle.model.specs.Types.{createdAs};
+ghost use mathlib.Core.List.{[]};
+ghost use Rattle.model.specs.Calls.{createCopy, createStore, logCall, partOf, readPlace, sizeCondition};
+ghost use Rattle.model.specs.Types.{answerOf, createdAs};
+ghost use Rattle.store.specs.Opened.{openOf};
+ghost use Rattle.store.specs.declared.Opened.the-variants.{Open};
+ghost use Rattle.engine.specs.Place.{Located, PartAt};
 use model::Answer;
+use model::Place;
 use model::Refusal;
+use store::Header;
+use store::Opened;
+
+// ---- create
 
 // Refusal 1: the length is no multiple of 512, or there are fewer than 2 blocks or more than 4,096.
 fn wrong_size(store: &[u8]) -> bool
@@ -33,4 +42,88 @@ pub fn create_store(store: &mut [u8]) -> Answer
     block::put(store, 1, 1);
     block::seal_at(store, 0);
     Answer::Done
+}
+
+// A fresh working copy: its seat and 32 empty entries.
+pub fn create_copy(copy: &mut [u8], seat: u32) -> Answer
+    ensures { λ r. ⌜ createdAs r (now (copy .exit)) ≡ createCopy (now (copy .entry)) seat ⌝ }
+{
+    workcopy::create_copy(copy, seat)
+}
+
+// ---- looking
+
+// The companion of read, on a store that is open.
+fn place_in(store: &[u8], h: Header, revision: u32, sheet: u32) -> Place
+    requires { ⌜ openOf (now store) ≡ Open h ⌝ }
+    ensures { λ r. ⌜ Located (now (store .entry)) [] (readPlace (now (store .entry)) revision sheet) r ⌝ }
+{
+    if 31 < sheet {
+        return Place::Refused(Refusal::Range);
+    }
+    if h.last < revision as usize {
+        return Place::Refused(Refusal::Range);
+    }
+    let n = store.len() / 512;
+    let found = search::look_up(store, n, h.used, revision as usize, sheet as usize);
+    if found.block == 0 {
+        return Place::Refused(Refusal::Missing);
+    }
+    Place::InStore(search::span_at(store, found.block))
+}
+
+// The companion of read: the refusal, or where the bytes of the sheet stand in the store.
+pub fn read_place(store: &[u8], revision: u32, sheet: u32) -> Place
+    ensures { λ r. ⌜ Located (now (store .entry)) [] (readPlace (now (store .entry)) revision sheet) r ⌝ }
+{
+    let opened = store::open(store);
+    match opened {
+        Opened::Refused(k) => Place::Refused(k),
+        Opened::Open(h) => place_in(store, h, revision, sheet),
+    }
+}
+
+// The sheet's bytes, a part of the store; refused, the empty part at the store's start.
+pub fn read(store: &[u8], revision: u32, sheet: u32) -> &[u8]
+    ensures { λ r. ⌜ PartAt (store .entry) r (partOf (readPlace (now (store .entry)) revision sheet)) ⌝ }
+{
+    let place = read_place(store, revision, sheet);
+    match place {
+        Place::Refused(_) => &store[0..0],
+        Place::InStore(p) => {
+            let a = p.start;
+            let e = a + p.len;
+            &store[a..e]
+        }
+        Place::InCopy(_) => &store[0..0],
+    }
+}
+
+// Log on a store that is open.
+fn log_in(store: &[u8], h: Header, revision: u32, sheet: u32) -> Answer
+    requires { ⌜ openOf (now store) ≡ Open h ⌝ }
+    ensures { λ r. ⌜ answerOf r ≡ logCall (now (store .entry)) revision sheet ⌝ }
+{
+    if 31 < sheet {
+        return Answer::Refused(Refusal::Range);
+    }
+    if revision == 0 {
+        return Answer::Refused(Refusal::Range);
+    }
+    if h.last < revision as usize {
+        return Answer::Refused(Refusal::Range);
+    }
+    let n = store.len() / 512;
+    Answer::Logged(search::log_at(store, n, h.used, revision as usize, sheet as usize))
+}
+
+// Seat, stamp and number of changes of a commit, and what it did to the sheet.
+pub fn log(store: &[u8], revision: u32, sheet: u32) -> Answer
+    ensures { λ r. ⌜ answerOf r ≡ logCall (now (store .entry)) revision sheet ⌝ }
+{
+    let opened = store::open(store);
+    match opened {
+        Opened::Refused(k) => Answer::Refused(k),
+        Opened::Open(h) => log_in(store, h, revision, sheet),
+    }
 }

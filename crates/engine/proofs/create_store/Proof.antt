@@ -3,10 +3,10 @@
 use Prim.Native.Nat.{ℕ}
 use mathlib.Core.List.{List}
 use mathlib.Core.Path.{_∙_, ap, sym}
+use borrow.Author.Needs.{needs}
 use lib.ListN.{set}
 use Rattle.block.specs.Buffer.{sealAt}
 use Rattle.engine.proofs.Fresh.{all-zero, create-done, create-refused}
-use borrow.Author.Needs.{needs}
 use Rattle.engine.proofs.create_store.Statement.{statement}
 use Rattle.engine.proofs.create_store.Tie as tie
 

@@ -1,12 +1,12 @@
 -- `engine::wrong_size` meets its contract: one way through the tests at a time.
 -- Assumes nothing.
-use Prim.Native.Nat.{ℕ, _/_, _%_, _<_, _≤_}
-use mathlib.Core.Path.{_≡_, sym, ap, ap₂}
-use mathlib.Core.Bool.{Bool, true, not, _||_}
+use Prim.Native.Nat.{_%_, _/_, _<_, _≤_, ℕ}
+use mathlib.Core.Bool.{Bool, _||_, not, true}
+use mathlib.Core.Path.{_≡_, ap, ap₂, sym}
 use native.Mathlib.Omega.{arith}
-use borrow.Author.Tests.{eq-eqb, ne-eqb, lt-ltb, le-ltb}
-use lib.ListN.{length}
+use borrow.Author.Tests.{eq-eqb, le-ltb, lt-ltb, ne-eqb}
 use lib.Dec.{eqb, ltb}
+use lib.ListN.{length}
 use Rattle.engine.proofs.wrong_size.Statement.{statement}
 use Rattle.engine.proofs.wrong_size.Tie as tie
 

@@ -1,0 +1,130 @@
+-- Demand 2 for the code: "A store is accepted exactly when its blocks are the layout of some history, and reading back what a history was laid out as gives that
+-- history." What whoever calls `store::open`, `read` and `log` learns is taken from each function's own contract (`Learnt`), of which no text is repeated here, and
+-- that the code meets the contract (`met`) stands in the same record.
+-- Assumes nothing.
+use Prim.Native.Nat.{_≤_, ℕ}
+use mathlib.Core.Bool.{false, true}
+use mathlib.Core.List.{[]}
+use mathlib.Core.Logic.{_↔_}
+use mathlib.Core.Option.{some}
+use mathlib.Core.Path.{_∙_, _≡_, ap, refl, subst, sym}
+use native.Mathlib.Omega.{arith}
+use denote.Ref.{RefT, now}
+use lib.ListN.{drop, take}
+use Rattle.model.specs.Calls.{Place, partOf, readPlace, storeConditions}
+use Rattle.model.specs.Demand2.{LaidStore}
+use Rattle.model.specs.History.{Bytes, History, commitAt, last, present, sheet}
+use Rattle.model.specs.Machine.{logOf}
+use Rattle.model.specs.Store.{Holds, blockCount, blockUsed, checked, lawful, storeHistory, usedOf}
+use Rattle.model.specs.Types.{answerOf}
+use Rattle.model.specs.declared.Answer.{Answer}
+use Rattle.laws.proofs.Accepted.{is-T}
+use Rattle.laws.proofs.Conditions.{clear}
+use Rattle.laws.proofs.Demand2.{demand-two}
+use Rattle.laws.proofs.Places.{heard-block}
+use Rattle.laws.proofs.Store.{accepted-holds}
+use Rattle.engine.proofs.Looking.{log-there, read-found}
+use Rattle.search.proofs.Finding.{block-lacks, open-asked}
+use Rattle.search.proofs.Revisions.{passed}
+use Rattle.store.proofs.Opening.{accepted-open, open-accepted}
+use Rattle.store.specs.Opened.{openOf}
+use Rattle.store.specs.declared.Header.{Header}
+use Rattle.store.specs.declared.Opened.{Opened}
+use Rattle.store.specs.declared.Opened.the-variants.{Open}
+use contract.Lifetimes.{Lfts}
+use Rattle.store.proofs.open.Met as open-met
+use Rattle.store.proofs.open.Reads as open-reads
+use Rattle.store.proofs.open.Statement as open-statement
+use Rattle.engine.proofs.log.Met as log-met
+use Rattle.engine.proofs.log.Reads as log-reads
+use Rattle.engine.proofs.log.Statement as log-statement
+use Rattle.engine.proofs.read.Met as read-met
+use Rattle.engine.proofs.read.Reads as read-reads
+use Rattle.engine.proofs.read.Statement as read-statement
+
+-- THE STATEMENT
+
+-- what `open` answers on these bytes
+pub record Opens (store : Bytes) (r : Opened) : Type 0 where
+  -- it is `Open` exactly where they are the layout of some history
+  pub accepted : ((t : Header) × (r ≡ Open t)) ↔ ((h : History) × LaidStore store h)
+  -- with that history's length as the last revision
+  pub length : (t : Header) (h : History) → r ≡ Open t → LaidStore store h → t .last ≡ last h
+  -- and the history that is read back is that history
+  pub read-back : (h : History) → LaidStore store h → storeHistory store ≡ h
+
+pub record CodeDemand2 : Type 2 where
+  pub open-meets : (M : Type 1) → open-statement.statement M
+  pub read-meets : (M : Type 1) → read-statement.statement M
+  pub log-meets : (M : Type 1) → log-statement.statement M
+  -- `open` of any bytes
+  pub opens : (κs : Lfts 1) (x x′ : RefT Bytes) (r : Opened) → open-reads.Learnt κs (x, tt) r (x′, tt) → Opens (now x) r
+  -- of the layout of a history, `read` hands back the bytes of its trees
+  pub reads : (κs : Lfts 1) (x x′ r : RefT Bytes) (R i R′ i′ : ℕ) → read-reads.Learnt κs (x, (R, (i, tt))) r (x′, (R′, (i′, tt)))
+      → (h : History) → LaidStore (now x) h → R ≤ last h → i ≤ 31 → (b : Bytes) → sheet h R i ≡ some b → now r ≡ b
+  -- and `log` tells of its commits
+  pub logs : (κs : Lfts 1) (x x′ : RefT Bytes) (r : Answer) (R i R′ i′ : ℕ) → log-reads.Learnt κs (x, (R, (i, tt))) r (x′, (R′, (i′, tt)))
+      → (h : History) → LaidStore (now x) h → 1 ≤ R → R ≤ last h → i ≤ 31 → answerOf r ≡ logOf (commitAt h R) i
+
+-- THE PROOF
+
+opens-as : (store : Bytes) (r : Opened) → r ≡ openOf store → Opens store r
+opens-as store r e =
+    let D = demand-two store [] in
+    record {
+      accepted = (
+        λ p. D .store-accepted .0 (open-accepted store (p .0) (sym e ∙ p .1) .0),
+        λ p. (record { last = last (storeHistory store); used = usedOf store }, e ∙ accepted-open store (D .store-accepted .1 p)),
+      );
+      length = λ t h o L. open-accepted store t (sym e ∙ o) .1 ∙ ap last (D .store-read h L);
+      read-back = λ h L. D .store-read h L;
+    }
+
+abbrev headOf : Bytes → Header
+headOf store = record { last = last (storeHistory store); used = usedOf store }
+
+-- the layout of a history is open, with that history in it
+laid-open : (store : Bytes) (h : History) → LaidStore store h → (openOf store ≡ Open (headOf store)) × (storeHistory store ≡ h)
+laid-open store h L =
+    let D = demand-two store [] in
+    (accepted-open store (D .store-accepted .1 (h, L)), D .store-read h L)
+
+module _ (store : Bytes) (t : Header) (e : openOf store ≡ Open t) where
+  held : Holds (blockCount store) store (storeHistory store)
+  held =
+      let c = clear (storeConditions store) (open-accepted store t e .0) in
+      accepted-holds (blockCount store) store (passed store (blockCount store) (t .used) (open-asked store t e) .whole)
+      (is-T (checked (blockCount store) store) (c .1 .0)) (is-T (lawful (blockCount store) store) (c .1 .1 .0))
+
+  module _ (R i : ℕ) (l : R ≤ t .last) (g : i ≤ 31) (b : Bytes) (s : sheet (storeHistory store) R i ≡ some b) where
+    within : R ≤ last (storeHistory store)
+    within = let q = open-accepted store t e .1 in omega arith
+
+    used : blockUsed store R i ≡ 0 → ⊥
+    used z =
+        let n : present (sheet (storeHistory store) R i) ≡ false = block-lacks store (blockCount store) (t .used) (open-asked store t e) R i within .0 z in
+        let y : present (sheet (storeHistory store) R i) ≡ true = ap present s in
+        let w : _≡_ {A = ℕ} 0 1 = cc in
+        omega arith
+
+    read-bytes : take (partOf (readPlace store R i) .1) (drop (partOf (readPlace store R i) .0) store) ≡ b
+    read-bytes =
+        let heard = heard-block (blockCount store) store [] (storeHistory store) R i b refl held within s in
+        ap (λ (q : Place). take (partOf q .1) (drop (partOf q .0) store)) (sym (read-found store R i t e g l used)) ∙ cc heard
+
+pub code-demand-two : CodeDemand2
+code-demand-two = record {
+  open-meets = λ M. open-met.met;
+  read-meets = λ M. read-met.met;
+  log-meets = λ M. log-met.met;
+  opens = λ κs x x′ r e. opens-as (now x) r e;
+  reads = λ κs x x′ r R i R′ i′ e h L l g b s.
+      let o = laid-open (now x) h L in
+      e .bytes
+      ∙ read-bytes (now x) (headOf (now x)) (o .0) R i (subst (λ (y : History). R ≤ last y) (sym (o .1)) l) g b (subst (λ (y : History). sheet y R i ≡ some b) (sym (o .1)) s);
+  logs = λ κs x x′ r R i R′ i′ e h L one l g.
+      let o = laid-open (now x) h L in
+      e
+      ∙ sym (log-there (now x) R i (headOf (now x)) (o .0) g (subst (λ (y : History). R ≤ last y) (sym (o .1)) l) (λ z. omega arith))
+      ∙ ap (λ (y : History). logOf (commitAt y R) i) (o .1);
+}
