@@ -3,3 +3,4 @@ pub mod Refusing
 pub mod Looking
 pub mod Parts
 pub mod Demand2
+pub mod Changing

@@ -2,11 +2,12 @@
 // Each promise is one equation with the call's meaning in crates/model/specs/Calls.antt.
 ghost use mathlib.Core.Path.{_≡_};
 ghost use mathlib.Core.List.{[]};
-ghost use Rattle.model.specs.Calls.{createCopy, createStore, logCall, partOf, readPlace, sizeCondition};
+ghost use Rattle.model.specs.Calls.{addCall, copyCall, createCopy, createStore, deleteCall, editCall, logCall, moveCall, out, partOf, readPlace, sizeCondition};
 ghost use Rattle.model.specs.Types.{answerOf, createdAs};
 ghost use Rattle.store.specs.Opened.{openOf};
 ghost use Rattle.store.specs.declared.Opened.the-variants.{Open};
 ghost use Rattle.engine.specs.Place.{Located, PartAt};
+use entries::Checked;
 use model::Answer;
 use model::Place;
 use model::Refusal;
@@ -125,5 +126,60 @@ pub fn log(store: &[u8], revision: u32, sheet: u32) -> Answer
     match opened {
         Opened::Refused(k) => Answer::Refused(k),
         Opened::Open(h) => log_in(store, h, revision, sheet),
+    }
+}
+
+// Add: the empty entry of a sheet becomes added, with these bytes.
+pub fn add(store: &[u8], copy: &mut [u8], sheet: u32, bytes: &[u8]) -> Answer
+    ensures { λ r. ⌜ out (answerOf r) (now (store .entry)) (now (copy .exit)) ≡ addCall (now (store .entry)) (now (copy .entry)) sheet (now (bytes .entry)) ⌝ }
+{
+    let c = entries::check(store, copy);
+    match c {
+        Checked::Refused(k) => Answer::Refused(k),
+        Checked::Ready(_) => local::add(copy, sheet, bytes),
+    }
+}
+
+// Edit: other bytes in a normal, added or copied entry.
+pub fn edit(store: &[u8], copy: &mut [u8], sheet: u32, bytes: &[u8]) -> Answer
+    ensures { λ r. ⌜ out (answerOf r) (now (store .entry)) (now (copy .exit)) ≡ editCall (now (store .entry)) (now (copy .entry)) sheet (now (bytes .entry)) ⌝ }
+{
+    let c = entries::check(store, copy);
+    match c {
+        Checked::Refused(k) => Answer::Refused(k),
+        Checked::Ready(_) => local::edit(copy, sheet, bytes),
+    }
+}
+
+// Delete: normal becomes deleted, added and copied become empty.
+pub fn delete(store: &[u8], copy: &mut [u8], sheet: u32) -> Answer
+    ensures { λ r. ⌜ out (answerOf r) (now (store .entry)) (now (copy .exit)) ≡ deleteCall (now (store .entry)) (now (copy .entry)) sheet ⌝ }
+{
+    let c = entries::check(store, copy);
+    match c {
+        Checked::Refused(k) => Answer::Refused(k),
+        Checked::Ready(_) => local::delete(copy, sheet),
+    }
+}
+
+// Copy: the empty entry of sheet `to` becomes a copy of that of sheet `from`.
+pub fn copy_sheet(store: &[u8], copy: &mut [u8], from: u32, to: u32) -> Answer
+    ensures { λ r. ⌜ out (answerOf r) (now (store .entry)) (now (copy .exit)) ≡ copyCall (now (store .entry)) (now (copy .entry)) from to ⌝ }
+{
+    let c = entries::check(store, copy);
+    match c {
+        Checked::Refused(k) => Answer::Refused(k),
+        Checked::Ready(_) => local::copy_sheet(copy, from, to),
+    }
+}
+
+// Move: copy, then delete `from`.
+pub fn move_sheet(store: &[u8], copy: &mut [u8], from: u32, to: u32) -> Answer
+    ensures { λ r. ⌜ out (answerOf r) (now (store .entry)) (now (copy .exit)) ≡ moveCall (now (store .entry)) (now (copy .entry)) from to ⌝ }
+{
+    let c = entries::check(store, copy);
+    match c {
+        Checked::Refused(k) => Answer::Refused(k),
+        Checked::Ready(_) => local::move_sheet(copy, from, to),
     }
 }
