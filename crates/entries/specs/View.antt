@@ -2,7 +2,7 @@
 -- Assumes nothing.
 use Prim.Native.Nat.{ℕ}
 use mathlib.Core.Bool.{Bool, cond, true}
-use mathlib.Core.List.{_++_, []}
+use mathlib.Core.List.{[], _++_}
 use mathlib.Core.Option.{Option, none, some}
 use mathlib.Core.Path.{_≡_}
 use lib.Dec.{eqb}
@@ -16,14 +16,14 @@ use Rattle.model.specs.Refusals.{firstOf}
 use Rattle.model.specs.Store.{blockCount, storeBlocks, storeHistory, usedOf}
 use Rattle.model.specs.WorkCopy.{entriesOf, seatOf}
 use Rattle.model.specs.declared.Refusal.{Refusal}
-use Rattle.model.specs.declared.Refusal.the-variants.{StoreLength, StoreCheck, StoreLayout, CopyLength, CopyLayout, Unfit}
-use Rattle.search.specs.Find.{Accepted}
-use Rattle.workcopy.specs.Copy.{Accepted as CopyAccepted}
+use Rattle.model.specs.declared.Refusal.the-variants.{CopyLayout, CopyLength, StoreCheck, StoreLayout, StoreLength, Unfit}
 use Rattle.entries.specs.declared.Checked.{Checked}
 use Rattle.entries.specs.declared.Checked.the-variants.{Ready, Refused}
 use Rattle.entries.specs.declared.Update.{Update}
 use Rattle.entries.specs.declared.Update.the-variants.{Clear, Conflict, Rebase, Stay, Take}
 use Rattle.entries.specs.declared.View.{View}
+use Rattle.search.specs.Find.{Accepted}
+use Rattle.workcopy.specs.Copy.{Accepted as CopyAccepted}
 
 -- the store is accepted, and these are its numbers
 pub record Opened (store : Bytes) (v : View) : Type 0 where

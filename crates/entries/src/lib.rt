@@ -1,8 +1,7 @@
 // The entries of a working copy held against an accepted store: whether the copy fits, and what each entry is. Inner functions but for `check`, which takes any two buffers.
-use model::Entry;
 use model::Refusal;
 use model::State;
-ghost use Prim.Native.Nat.{ℕ, _<_, _≤_};
+ghost use Prim.Native.Nat.{_<_, _≤_};
 ghost use mathlib.Core.Bool.{not};
 ghost use mathlib.Core.Path.{_≡_};
 ghost use Rattle.block.specs.Lists.{same};

@@ -150,7 +150,7 @@ drop-take (suc k) m [] = rw (suc-add k m) (sym (take-nil m))
 drop-take (suc k) m (x ∷ l) = rw (suc-add k m) (drop-take k m l)
 
 -- the bytes of a block from 16 on
-body-at : (l : List ℕ) (at n : ℕ) → n ≤ 480 → take n (drop 16 (take 512 (drop at l))) ≡ take n (drop (at + 16) l)
+pub body-at : (l : List ℕ) (at n : ℕ) → n ≤ 480 → take n (drop 16 (take 512 (drop at l))) ≡ take n (drop (at + 16) l)
 body-at l at n h = ap (take n) (drop-take 16 496 (drop at l)) ∙ take-take n 496 (drop 16 (drop at l)) (omega arith) ∙ ap (take n) (drop-drop 16 at l)
 
 module _ (l s : List ℕ) (at n : ℕ) {t : List ℕ} (h : n ≤ 480) (room : at + 512 ≤ length l) (ls : n ≤ length s) (et : t ≡ paste l (at + 16) s n) where
