@@ -1,6 +1,6 @@
 -- What is known of buffers that are accepted; what `check` answers; what update makes of an entry.
 -- Assumes nothing.
-use Prim.Native.Nat.{ℕ}
+use Prim.Native.Nat.{_<_, ℕ}
 use mathlib.Core.Bool.{Bool, cond, true}
 use mathlib.Core.List.{[], _++_}
 use mathlib.Core.Option.{Option, none, some}
@@ -12,6 +12,7 @@ use Rattle.model.specs.Calls.{copyConditions, storeConditions}
 use Rattle.model.specs.Entry.{Entry, added, copied, deleted, empty, normal, ownBytes}
 use Rattle.model.specs.Fitting.{fitsStore}
 use Rattle.model.specs.History.{Bytes, last}
+use Rattle.model.specs.Machine.{updatedTo}
 use Rattle.model.specs.Refusals.{firstOf}
 use Rattle.model.specs.Store.{blockCount, storeBlocks, storeHistory, usedOf}
 use Rattle.model.specs.WorkCopy.{entriesOf, seatOf}
@@ -92,3 +93,16 @@ updatedAs Stay store R e = some e
 updatedAs Clear store R e = some empty
 updatedAs (Take p) store R e = some (normal R (bytesAt (storeBlocks store) p))
 updatedAs Rebase store R e = some (rebased R e)
+
+-- a block that is taken is one of the store's
+abbrev pub Stands : Bytes → Update → Type 0
+Stands store Conflict = Unit {0}
+Stands store Stay = Unit {0}
+Stands store Clear = Unit {0}
+Stands store (Take p) = p < blockCount store
+Stands store Rebase = Unit {0}
+
+-- x is what an update to R makes of entry i
+pub record UpdateIs (store copy : Bytes) (R i : ℕ) (x : Update) : Type 0 where
+  pub means : updatedAs x store R (entryIn copy i) ≡ updatedTo (storeHistory store) R i (entryIn copy i)
+  pub stands : Stands store x
