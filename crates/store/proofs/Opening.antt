@@ -44,3 +44,8 @@ module _ (store : Bytes) where
   open-refused k e =
       ways-refused (sizeCondition store .holds) (not (checked (blockCount store) store)) (not (lawful (blockCount store) store))
       (record { last = last (storeHistory store); used = usedOf store }) k e
+
+  -- and back: a store of which no line holds is open
+  pub accepted-open : firstOf (storeConditions store) ≡ none → openOf store ≡ Open (record { last = last (storeHistory store); used = usedOf store })
+  unfolding openOf
+  accepted-open e = ap (λ o. openedBy o (record { last = last (storeHistory store); used = usedOf store })) e
