@@ -6,7 +6,7 @@ use mathlib.Core.List.{List, [], _++_, _∷_, append-assoc}
 use mathlib.Core.Option.{Option, some}
 use mathlib.Core.Path.{_∙_, _≡_, ap, sym}
 use native.Mathlib.Omega.{arith}
-use Rattle.model.specs.Calls.{changeBy, changeCall, copyConditions, refusalOf, sideIn, storeConditions}
+use Rattle.model.specs.Calls.{changeBy, changeCall, copyConditions, out, refusalOf, sideIn, storeConditions}
 use Rattle.model.specs.History.{Bytes}
 use Rattle.model.specs.Machine.{Call, refused}
 use Rattle.model.specs.Refusals.{Condition, conditions, firstOf}

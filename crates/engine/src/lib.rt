@@ -136,7 +136,7 @@ pub fn add(store: &[u8], copy: &mut [u8], sheet: u32, bytes: &[u8]) -> Answer
     let c = entries::check(store, copy);
     match c {
         Checked::Refused(k) => Answer::Refused(k),
-        Checked::Ready(_) => local::add(copy, sheet, bytes),
+        Checked::Ready(v) => local::add(copy, sheet, bytes),
     }
 }
 
@@ -147,7 +147,7 @@ pub fn edit(store: &[u8], copy: &mut [u8], sheet: u32, bytes: &[u8]) -> Answer
     let c = entries::check(store, copy);
     match c {
         Checked::Refused(k) => Answer::Refused(k),
-        Checked::Ready(_) => local::edit(copy, sheet, bytes),
+        Checked::Ready(v) => local::edit(copy, sheet, bytes),
     }
 }
 
@@ -158,7 +158,7 @@ pub fn delete(store: &[u8], copy: &mut [u8], sheet: u32) -> Answer
     let c = entries::check(store, copy);
     match c {
         Checked::Refused(k) => Answer::Refused(k),
-        Checked::Ready(_) => local::delete(copy, sheet),
+        Checked::Ready(v) => local::delete(copy, sheet),
     }
 }
 
@@ -169,7 +169,7 @@ pub fn copy_sheet(store: &[u8], copy: &mut [u8], from: u32, to: u32) -> Answer
     let c = entries::check(store, copy);
     match c {
         Checked::Refused(k) => Answer::Refused(k),
-        Checked::Ready(_) => local::copy_sheet(copy, from, to),
+        Checked::Ready(v) => local::copy_sheet(copy, from, to),
     }
 }
 
@@ -180,6 +180,6 @@ pub fn move_sheet(store: &[u8], copy: &mut [u8], from: u32, to: u32) -> Answer
     let c = entries::check(store, copy);
     match c {
         Checked::Refused(k) => Answer::Refused(k),
-        Checked::Ready(_) => local::move_sheet(copy, from, to),
+        Checked::Ready(v) => local::move_sheet(copy, from, to),
     }
 }
