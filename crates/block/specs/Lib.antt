@@ -3,3 +3,4 @@ pub mod Lists
 pub mod Field
 pub mod Check
 pub mod Buffer
+pub mod Write

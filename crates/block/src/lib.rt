@@ -1,11 +1,12 @@
 // Blocks of 512 bytes: fields, the two sums, check and seal. Every function is total: a byte past the end reads as 0 and is not written, and a block that is
 // not whole is not sealed.
 ghost use mathlib.Core.Path.{_≡_};
-ghost use Prim.Native.Nat.{ℕ, _<_};
-ghost use lib.ListN.{getD, set, take};
+ghost use Prim.Native.Nat.{ℕ, _-_, _<_};
+ghost use lib.ListN.{getD, replicate, set, take};
 ghost use Rattle.block.specs.Field.{twoAt, fourAt, withTwo, withFour};
 ghost use Rattle.block.specs.Check.{sums, sealed, sealOf, isZero};
 ghost use Rattle.block.specs.Buffer.{blockAt, sealAt};
+ghost use Rattle.block.specs.Write.{written};
 
 // The byte at k.
 pub fn byte(s: &[u8], k: usize) -> u8
@@ -81,6 +82,39 @@ pub fn put32(s: &mut [u8], k: usize, v: u32)
         put(s, k + 1, (v / 256 % 256) as u8);
         put(s, k + 2, (v / 256 / 256 % 256) as u8);
         put(s, k + 3, (v / 256 / 256 / 256) as u8);
+    }
+}
+
+// Writes the bytes b from `at` on.
+pub fn put_bytes(s: &mut [u8], at: usize, b: &[u8])
+    ensures { λ _. ⌜ now (s .exit) ≡ written at (now (b .entry)) (now (s .entry)) ⌝ }
+{
+    let mut n: usize = 0;
+    if at < s.len() {
+        n = s.len() - at;
+    }
+    if b.len() < n {
+        n = b.len();
+    }
+    let mut i: usize = 0;
+    while i < n {
+        s[at + i] = b[i];
+        i += 1;
+    }
+}
+
+// Writes zeros from `from` to before `to`.
+pub fn clear(s: &mut [u8], from: usize, to: usize)
+    ensures { λ _. ⌜ now (s .exit) ≡ written from (replicate (to - from) 0) (now (s .entry)) ⌝ }
+{
+    let mut end = to;
+    if s.len() < end {
+        end = s.len();
+    }
+    let mut i = from;
+    while i < end {
+        s[i] = 0;
+        i += 1;
     }
 }
 
