@@ -17,7 +17,7 @@ use Rattle.model.specs.History.{Bytes, Change, Commit, History, add, change, co
 use Rattle.model.specs.Invariant.{Base, Made, Right, Short}
 use Rattle.model.specs.Layout.{Lays, Table, user}
 use Rattle.model.specs.Machine.{blocksFor, contentOf, count}
-use Rattle.model.specs.Pass.{grown, isBlank, laid, ok, okFrom, tablesOf}
+use Rattle.model.specs.Pass.{grown, isBlank, laid, ok, okFrom, tablesAfter, tablesOf}
 use Rattle.model.specs.Rows.{total}
 use Rattle.model.specs.Shows.{Stored}
 use Rattle.model.specs.Store.{Holds, blanks, blocksOf, front}
@@ -238,6 +238,14 @@ module _ (look : ℕ → List ℕ) (at : ℕ) (tables : List Table) (h : History
         go true q f g = ((omega arith, omega (arith, below v s), omega (arith, r .0 .1), omega (arith, r .0 .2 .high)), f q)
         go false q f g = ((omega arith, omega arith, omega (arith, r .0 .1), omega (arith, r .0 .2 .high)), g (omega arith))
 
+after-front : (ts : List Table) (bs : List Block) → tablesAfter ts (front bs) ≡ tablesAfter ts bs
+unfolding tablesAfter
+after-front ts [] = refl
+after-front ts (label ∷ bs) = refl
+after-front ts (content r b ∷ bs) = after-front ts bs
+after-front ts (commit r s t ls ∷ bs) = after-front (grown ts ls) bs
+after-front ts (blank ∷ bs) = refl
+
 -- what is known of the used blocks: the tables' block numbers are theirs, and the trees' bytes are in them
 module _ (bs : List Block) (h : History) (L : Lays bs h) where
   passed : T (ok bs)
@@ -245,6 +253,10 @@ module _ (bs : List Block) (h : History) (L : Lays bs h) where
 
   lays-split : Lays (front bs ++ blanks bs) h
   lays-split = subst (λ (x : List Block). Lays x h) (sym (front-blanks bs)) L
+
+  pub tables-used : tablesOf (front bs) ≡ tablesOf bs
+  unfolding Lays tablesOf
+  tables-used = subst (λ (x : List Block). tablesOf (front x) ≡ tablesOf x) (sym (L .1)) (after-front (replicate 32 0 ∷ []) (L .0))
 
   pub some-used : 1 ≤ length (front bs)
   some-used = some-front bs passed

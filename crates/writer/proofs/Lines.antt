@@ -10,8 +10,8 @@ use Rattle.block.proofs.Writing.{written-both, written-none}
 use Rattle.block.specs.Field.{two}
 use Rattle.block.specs.Write.{written}
 use Rattle.model.specs.Blocks.{Line, actionOf, codeOf, linesOf}
-use Rattle.writer.specs.declared.Line.{Line as TheLine}
 use Rattle.writer.specs.Blocks.{Tells, lineAt, lineBytes, lineIn, linesFrom, noLine}
+use Rattle.writer.specs.declared.Line.{Line as TheLine}
 
 pub length-from : (ls : List TheLine) (j n : ℕ) → length (linesFrom ls j n) ≡ n
 unfolding linesFrom

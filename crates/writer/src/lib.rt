@@ -134,9 +134,9 @@ fn put_entry<'a>(store: &mut [u8], block: usize, revision: usize, copy: &'a [u8]
 }
 
 // Where a writing stood when it stopped: the next block, and how many block writes were left to it.
-pub struct Cut {
-    pub next: usize,
-    pub left: usize,
+struct Cut {
+    next: usize,
+    left: usize,
 }
 
 // Writes the content blocks of a commit, from block `used` on, a block for each line that points to the next one; n at most.

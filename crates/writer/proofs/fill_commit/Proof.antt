@@ -4,8 +4,8 @@ use borrow.Author.Needs.{needs}
 use Rattle.writer.proofs.Filling.{commit-filled}
 use Rattle.writer.proofs.Lines.{length-from}
 use Rattle.writer.proofs.fill_commit.Statement.{statement}
-use Rattle.writer.proofs.fill_commit.Tie as tie
 use Rattle.writer.specs.Blocks.{linesFrom}
+use Rattle.writer.proofs.fill_commit.Tie as tie
 
 returns : tie.Need-returns
 returns c =

@@ -4,8 +4,8 @@ use borrow.Author.Needs.{needs}
 use Rattle.model.specs.Blocks.{commit}
 use Rattle.writer.proofs.Filling.{block-lent}
 use Rattle.writer.proofs.put_commit_block.Statement.{statement}
-use Rattle.writer.proofs.put_commit_block.Tie as tie
 use Rattle.writer.specs.Blocks.{linesFrom}
+use Rattle.writer.proofs.put_commit_block.Tie as tie
 
 returns : tie.Need-returns
 returns c =

@@ -1,12 +1,12 @@
 -- `writer::put_contents` meets its contract. The invariant: what is left to write gives the whole.
 -- Assumes nothing.
-use Prim.Native.Nat.{_*_, _+_, _-_, _<_, _≤_}
+use Prim.Native.Nat.{_-_, _<_, _≤_}
 use native.Mathlib.Omega.{arith}
 use lib.ListN.{getD}
 use Rattle.writer.proofs.Contents.{Putting, putting-begins, putting-done, putting-out, putting-own, putting-room, putting-skip}
 use Rattle.writer.proofs.put_contents.Statement.{statement}
-use Rattle.writer.proofs.put_contents.Tie as tie
 use Rattle.writer.specs.Blocks.{noLine, sheetIn}
+use Rattle.writer.proofs.put_contents.Tie as tie
 
 abbrev Inv-loop : tie.InvT-loop
 Inv-loop store₀ n used revision m copy lines next₀ left₀ j₀ store next left j = (j ≤ m) × Putting (sheetIn copy) lines n used revision m store₀ store next left j

@@ -11,8 +11,8 @@ use Rattle.model.specs.Blocks.{content, fieldsOf}
 use Rattle.model.specs.Codec.{encode}
 use Rattle.writer.proofs.Contents.{part-sheet}
 use Rattle.writer.proofs.put_entry.Statement.{statement}
-use Rattle.writer.proofs.put_entry.Tie as tie
 use Rattle.writer.specs.Blocks.{sizeIn}
+use Rattle.writer.proofs.put_entry.Tie as tie
 
 add-end : tie.Need-add-end
 unfolding sizeIn

@@ -1,9 +1,8 @@
 -- `writer::put_lines` meets its contract. The invariant: what is left to write gives the whole.
 -- Assumes nothing.
-use Prim.Native.Nat.{_*_, _+_, _-_, _≤_}
+use Prim.Native.Nat.{_-_, _≤_}
 use mathlib.Core.Path.{_∙_, _≡_, ap, refl, sym}
 use native.Mathlib.Omega.{arith}
-use borrow.Author.Needs.{needs}
 use lib.ListN.{length}
 use Rattle.block.specs.Write.{written}
 use Rattle.model.specs.Blocks.{linesOf}

@@ -8,8 +8,8 @@ use Rattle.model.specs.Blocks.{Block}
 use Rattle.writer.proofs.Contents.{cut-enough}
 use Rattle.writer.proofs.Lines.{length-from}
 use Rattle.writer.proofs.write_commit.Statement.{statement}
-use Rattle.writer.proofs.write_commit.Tie as tie
 use Rattle.writer.specs.Blocks.{Wrote, linesFrom, sheetIn}
+use Rattle.writer.proofs.write_commit.Tie as tie
 
 returns : tie.Need-returns
 returns c =

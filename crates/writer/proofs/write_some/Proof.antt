@@ -7,8 +7,8 @@ use borrow.Author.Needs.{needs}
 use lib.ListN.{length-take}
 use Rattle.writer.proofs.Contents.{cut-none, cut-short}
 use Rattle.writer.proofs.write_some.Statement.{statement}
-use Rattle.writer.proofs.write_some.Tie as tie
 use Rattle.writer.specs.Blocks.{contentsBy, linesFrom, sheetIn}
+use Rattle.writer.proofs.write_some.Tie as tie
 
 -- the contents of the lines
 contents : tie.Start → List (List ℕ)
