@@ -10,7 +10,7 @@ use lib.ListN.{getD}
 use Rattle.block.specs.Field.{twoAt}
 use Rattle.model.specs.Blocks.{Action, adds, changes, copies, deletes}
 use Rattle.model.specs.Writing.{Plan, fresh, lineOf, shared, skip}
-use Rattle.commits.specs.Plan.{RowIs, lineIf, planAs, rowOf}
+use Rattle.commits.specs.Plan.{RowHas, RowIs, lineIf, planAs, rowOf}
 
 module _ (copy changed places : List ℕ) (i p : ℕ) where
   abbrev state : ℕ
@@ -74,3 +74,7 @@ module _ (copy changed places : List ℕ) (i p : ℕ) where
         pub row-empty : (state ≡ 1 → ⊥) → RowIs row i p 0 0 0 0 p
         unfolding rowOf planAs
         row-empty e = none (rw (ne-eqb state 2 not-added, ne-eqb state 3 not-deleted, ne-eqb state 4 not-copied, ne-eqb state 1 e))
+
+-- the same of a row that was made of these numbers
+pub row-by : {q : Plan} {i p a b s v n a′ b′ s′ v′ n′ : ℕ} → RowIs q i p a b s v n → RowHas a′ b′ s′ v′ n′ a b s v n → RowIs q i p a′ b′ s′ v′ n′
+row-by R e = rw (e .is-action, e .is-block, e .is-source, e .is-revision, e .is-after) R

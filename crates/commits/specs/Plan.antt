@@ -37,6 +37,14 @@ rowsFrom f mask i (suc d) = cond (chosen mask i) (f i) skip ∷ rowsFrom f mask 
 unfoldable pub lineIf : ℕ → ℕ → ℕ → ℕ → ℕ → List Line
 lineIf sheet action block source revision = cond (eqb action 0) [] (lineOf sheet (actionOf action) block source revision ∷ [])
 
+-- a row has these numbers
+pub record RowHas (action block source revision after a b s v n : ℕ) : Type 0 where
+  pub is-action : action ≡ a
+  pub is-block : block ≡ b
+  pub is-source : source ≡ s
+  pub is-revision : revision ≡ v
+  pub is-after : after ≡ n
+
 -- a row as the code has it, where block p is the next
 pub record RowIs (q : Plan) (sheet p action block source revision after : ℕ) : Type 0 where
   pub line : lineIf sheet action block source revision ≡ linesFor sheet p (q ∷ [])

@@ -4,7 +4,7 @@ ghost use Prim.Native.Nat.{_<_, _≤_};
 ghost use mathlib.Core.Path.{_≡_};
 ghost use lib.ListN.{length};
 ghost use Rattle.commits.specs.Outcome.{Answered, Asked};
-ghost use Rattle.commits.specs.Plan.{Planned, RowIs, rowOf, rowsFrom};
+ghost use Rattle.commits.specs.Plan.{Planned, RowHas, RowIs, rowOf, rowsFrom};
 
 // How an entry is written: its line but for the sheet, action 0 where it has none, and the next block after it.
 struct Row {
@@ -13,6 +13,18 @@ struct Row {
     source: u8,
     revision: u16,
     next: usize,
+}
+
+fn row_with(action: u8, block: u16, source: u8, revision: u16, next: usize) -> Row
+    ensures { λ r. ⌜ RowHas (r .action) (r .block) (r .source) (r .revision) (r .next) action block source revision next ⌝ }
+{
+    Row {
+        action,
+        block,
+        source,
+        revision,
+        next,
+    }
 }
 
 // How the entry of a sheet is written, where block `next` is the next one.
@@ -34,59 +46,24 @@ fn row_of<'a>(
     let flag = changed[sheet];
     let place = places[sheet];
     if state == 2 {
-        return Row {
-            action: 1,
-            block: own,
-            source: 0,
-            revision: 0,
-            next: next + 1,
-        };
+        return row_with(1, own, 0, 0, next + 1);
     }
     if state == 3 {
-        return Row {
-            action: 3,
-            block: 0,
-            source: 0,
-            revision: 0,
-            next,
-        };
+        return row_with(3, 0, 0, 0, next);
     }
     if state == 4 {
         if flag == 0 {
-            return Row {
-                action: 4,
-                block: place,
-                source,
-                revision,
-                next,
-            };
+            return row_with(4, place, source, revision, next);
         }
-        return Row {
-            action: 4,
-            block: own,
-            source,
-            revision,
-            next: next + 1,
-        };
+        return row_with(4, own, source, revision, next + 1);
     }
-    if state == 1 {
-        if flag != 0 {
-            return Row {
-                action: 2,
-                block: own,
-                source: 0,
-                revision: 0,
-                next: next + 1,
-            };
-        }
+    if state != 1 {
+        return row_with(0, 0, 0, 0, next);
     }
-    Row {
-        action: 0,
-        block: 0,
-        source: 0,
-        revision: 0,
-        next,
+    if flag != 0 {
+        return row_with(2, own, 0, 0, next + 1);
     }
+    row_with(0, 0, 0, 0, next)
 }
 
 // The lines of a commit, how many there are, and the block that follows its content blocks.
