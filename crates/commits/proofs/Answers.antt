@@ -35,21 +35,21 @@ module _ (store copy store′ : Bytes) (stamp mask : ℕ) where
   abbrev d : Side
   d = sideIn store copy
 
-  abbrev grown : ℕ
-  grown = d .used + blocksFor (d .history) (commitChanges (d .history) mask (d .entries))
+  abbrev usedThen : ℕ
+  usedThen = d .used + blocksFor (d .history) (commitChanges (d .history) mask (d .entries))
 
-  abbrev written : Bytes
-  written = storeWith store (newCommit d stamp mask ∷ [])
+  abbrev storeThen : Bytes
+  storeThen = storeWith store (newCommit d stamp mask ∷ [])
 
   -- refusal 10: nothing is chosen that is pending, and the store is as it was
   pub told-nothing : Answered store copy store′ stamp mask Nothing → (nothingChosen d mask ≡ true) × (store′ ≡ store)
-  told-nothing A = nothing-by (nothingChosen d mask) (noRoom d mask) grown store written store′ (A .says) (A .bytes)
+  told-nothing A = nothing-by (nothingChosen d mask) (noRoom d mask) usedThen store storeThen store′ (A .says) (A .bytes)
 
   -- refusal 13: something is, and there is no room for it
   pub told-no-room : Answered store copy store′ stamp mask NoRoom → (nothingChosen d mask ≡ false) × (noRoom d mask ≡ true) × (store′ ≡ store)
-  told-no-room A = no-room-by (nothingChosen d mask) (noRoom d mask) grown store written store′ (A .says) (A .bytes)
+  told-no-room A = no-room-by (nothingChosen d mask) (noRoom d mask) usedThen store storeThen store′ (A .says) (A .bytes)
 
   -- done: neither, the number of used blocks is the machine's, and the store has the commit
   pub told-done : (u : ℕ) → Answered store copy store′ stamp mask (Done u)
-      → (nothingChosen d mask ≡ false) × (noRoom d mask ≡ false) × (u ≡ grown) × (store′ ≡ written)
-  told-done u A = done-by (nothingChosen d mask) (noRoom d mask) grown u store written store′ (A .says) (A .bytes)
+      → (nothingChosen d mask ≡ false) × (noRoom d mask ≡ false) × (u ≡ usedThen) × (store′ ≡ storeThen)
+  told-done u A = done-by (nothingChosen d mask) (noRoom d mask) usedThen u store storeThen store′ (A .says) (A .bytes)

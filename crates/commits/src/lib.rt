@@ -15,6 +15,7 @@ struct Row {
     next: usize,
 }
 
+// A row of these numbers.
 fn row_with(action: u8, block: u16, source: u8, revision: u16, next: usize) -> Row
     ensures { λ r. ⌜ RowHas (r .action) (r .block) (r .source) (r .revision) (r .next) action block source revision next ⌝ }
 {
@@ -93,11 +94,13 @@ fn make_plan<'a>(
     };
     let mut lines = [none; 32];
     let mut m = mask;
+    let mut left = masks::count(mask);
     let mut n = 0;
     let mut next = used;
-    while m != 0 {
+    while left != 0 {
         let k = u32::trailing_zeros(m);
         m &= m - 1;
+        left -= 1;
         let row = row_of(copy, changed, places, k as usize, next);
         let action = row.action;
         if action == 0 {
@@ -120,6 +123,7 @@ fn make_plan<'a>(
     }
 }
 
+// The blocks in use afterwards; refusal 10; refusal 13.
 pub enum Outcome {
     Done(usize),
     Nothing,

@@ -10,7 +10,7 @@ use native.Mathlib.Omega.{arith}
 use lib.Dec.{eqb}
 use lib.ListN.{length}
 use Rattle.model.specs.Machine.{chosen}
-use Rattle.masks.proofs.Bits.{Lowest, chosen-below, chosen-cleared, chosen-lowest, chosen-none, chosen-other}
+use Rattle.masks.proofs.Bits.{Lowest, chosen-below, chosen-cleared, chosen-lowest, chosen-none, chosen-other, lowest}
 use Rattle.masks.specs.Mask.{bit, countTo, sheetsFrom}
 
 -- two masks that choose alike from i on have the same sheets there
@@ -74,3 +74,15 @@ count-le (suc d) m = omega (arith, count-le d m, mod-lt (m / 2 ^ d) (zero-lt-suc
 pub count-first : {m t : ℕ} → Lowest m t → (d : ℕ) → t < d → countTo d m ≡ countTo d (m - 2 ^ t) + 1
 count-first {m} {t} L d h =
     omega (arith, sheets-count d m, sheets-count d (m - 2 ^ t), ap length (sheets-first L d 0 (omega arith) (omega arith)))
+
+-- a mask that chooses nothing is 0
+count-none : (d : ℕ) → countTo d 0 ≡ 0
+count-none d = sym (sheets-count d 0) ∙ ap length (sheets-none d 0)
+
+pub count-some : (m : ℕ) → (countTo 32 m ≡ 0 → ⊥) → 0 < m
+count-some zero ne = absurd (ne (count-none 32))
+count-some (suc m) ne = omega arith
+
+pub count-all : (m : ℕ) → m < 2 ^ 32 → countTo 32 m ≡ 0 → m ≡ 0
+count-all zero h e = refl
+count-all (suc m) h e = let l = lowest 32 (suc m) (omega arith) h in absurd (omega (arith, count-first (l .1) 32 (l .0)))
