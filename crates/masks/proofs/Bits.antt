@@ -18,7 +18,7 @@ use Rattle.model.specs.Machine.{chosen}
 use Rattle.masks.specs.Mask.{bit, countTo}
 
 -- ---- the bits of a block a above k digits r
-pub bit-high : (a k : ℕ) {r : ℕ} → r < 2 ^ k → (i : ℕ) → bit (a * 2 ^ k + r) (k + i) ≡ bit a i
+bit-high : (a k : ℕ) {r : ℕ} → r < 2 ^ k → (i : ℕ) → bit (a * 2 ^ k + r) (k + i) ≡ bit a i
 bit-high a k {r} h i = ap (λ (x : ℕ). x % 2) (sym (shr-shr (a * 2 ^ k + r) k i) ∙ ap (λ (x : ℕ). x / 2 ^ i) (high a k h))
 
 bit-under : (a e i : ℕ) → bit (a * 2 ^ (suc e + i)) i ≡ 0
@@ -28,10 +28,10 @@ bit-under a e i =
     ∙ ap (λ (x : ℕ). x % 2) (shl-shr (a * 2 ^ suc e) i)
     ∙ shifted-even a e
 
-pub bit-low : (a k i : ℕ) → i < k → bit (a * 2 ^ k) i ≡ 0
+bit-low : (a k i : ℕ) → i < k → bit (a * 2 ^ k) i ≡ 0
 bit-low a k i h = let e : k ≡ suc (k - suc i) + i = omega arith in ap (λ (x : ℕ). bit (a * 2 ^ x) i) e ∙ bit-under a (k - suc i) i
 
-pub bit-zero : (i : ℕ) → bit 0 i ≡ 0
+bit-zero : (i : ℕ) → bit 0 i ≡ 0
 bit-zero i = ap (λ (x : ℕ). x % 2) (zero-div (2 ^ i))
 
 -- ---- the lowest set bit t of n: n is odd above t, and 0 below
@@ -77,19 +77,19 @@ module _ {n t : ℕ} (L : Lowest n t) where
   cleared : n - 2 ^ t ≡ L .rest * 2 ^ suc t
   cleared = omega (arith, above)
 
-  pub bit-lowest : bit n t ≡ 1
+  bit-lowest : bit n t ≡ 1
   bit-lowest = ap (λ (x : ℕ). bit x t) (L .is) ∙ ap (λ (x : ℕ). x % 2) (shl-shr (L .rest * 2 + 1) t) ∙ odd (L .rest)
     where
       odd : (q : ℕ) → (q * 2 + 1) % 2 ≡ 1
       odd q = omega arith
 
-  pub bit-cleared : bit (n - 2 ^ t) t ≡ 0
+  bit-cleared : bit (n - 2 ^ t) t ≡ 0
   bit-cleared = ap (λ (x : ℕ). bit x t) cleared ∙ bit-low (L .rest) (suc t) t (omega arith)
 
-  pub bit-below : (i : ℕ) → i < t → bit n i ≡ 0
+  bit-below : (i : ℕ) → i < t → bit n i ≡ 0
   bit-below i h = ap (λ (x : ℕ). bit x i) (L .is) ∙ bit-low (L .rest * 2 + 1) t i h
 
-  pub bit-other : (i : ℕ) → (i ≡ t → ⊥) → bit (n - 2 ^ t) i ≡ bit n i
+  bit-other : (i : ℕ) → (i ≡ t → ⊥) → bit (n - 2 ^ t) i ≡ bit n i
   bit-other i ne = ⊎-elim over-t under-t (lt-or-ge t i)
     where
       under-t : i ≤ t → bit (n - 2 ^ t) i ≡ bit n i

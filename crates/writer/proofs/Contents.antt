@@ -57,7 +57,7 @@ module _ (bytes : ℕ → List ℕ) where
         ∙ ap (λ (q : ℕ). bytes (getD ls j noLine .sheet) ∷ contentsBy bytes q more) (sym (add-one p))
 
 -- one content block more
-pub own-step : (r next : ℕ) (x : List ℕ) (cs : List (List ℕ)) (s s′ : List ℕ) → s′ ≡ written (512 * next) (encode fieldsOf (content r x)) s
+own-step : (r next : ℕ) (x : List ℕ) (cs : List (List ℕ)) (s s′ : List ℕ) → s′ ≡ written (512 * next) (encode fieldsOf (content r x)) s
     → written (512 * (next + 1)) (joined fieldsOf (map (content r) cs)) s′ ≡ written (512 * next) (joined fieldsOf (map (content r) (x ∷ cs))) s
 own-step r next x cs s s′ e =
     let w = encode fieldsOf (content r x) in
@@ -70,7 +70,7 @@ joined-both [] bs = refl
 joined-both (a ∷ us) bs = ap (λ (x : List ℕ). encode fieldsOf a ++ x) (joined-both us bs) ∙ sym (append-assoc (encode fieldsOf a) (joined fieldsOf us) (joined fieldsOf bs))
 
 -- and the commit block after them
-pub commit-last : (used next : ℕ) (us : List Block) (b : Block) (s s₁ s₂ : List ℕ) → next ≡ used + length us
+commit-last : (used next : ℕ) (us : List Block) (b : Block) (s s₁ s₂ : List ℕ) → next ≡ used + length us
     → s₁ ≡ written (512 * used) (joined fieldsOf us) s → s₂ ≡ written (512 * next) (encode fieldsOf b) s₁
     → s₂ ≡ written (512 * used) (joined fieldsOf (us ++ (b ∷ []))) s
 commit-last used next us b s s₁ s₂ e e₁ e₂ =
@@ -195,7 +195,7 @@ module _ (bytes : ℕ → List ℕ) (ls : List TheLine) (n used r m : ℕ) (s₀
               ∙ ap (λ (y : List (List ℕ)). written (512 * next) (joined fieldsOf (map (content r) y)) s) (sym t) ∙ P .stores;
         }
 
-    pub putting-ends : take left (contentsBy bytes next (linesFrom ls j (m - j))) ≡ [] → PutSome s₀ s n used r (contentsBy bytes used (linesFrom ls 0 m)) next left
+    putting-ends : take left (contentsBy bytes next (linesFrom ls j (m - j))) ≡ [] → PutSome s₀ s n used r (contentsBy bytes used (linesFrom ls 0 m)) next left
     putting-ends e =
         record {
           bytes =
