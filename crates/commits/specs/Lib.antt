@@ -1,0 +1,3 @@
+-- The definitions that the contracts of `commits` cite.
+pub mod Plan
+pub mod Outcome

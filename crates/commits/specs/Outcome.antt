@@ -1,0 +1,56 @@
+-- What the inner commit asks and what it answers, in the machine's words: refusals 10 and 13, or the store with the new commit. Refusals 1 to 7 and 11 are the caller's.
+-- Assumes nothing.
+use Prim.Native.Nat.{_+_, _<_, suc, ℕ}
+use mathlib.Core.Bool.{cond, not, true}
+use mathlib.Core.List.{List, [], _∷_}
+use mathlib.Core.Path.{_≡_}
+use lib.Dec.{eqb}
+use lib.ListN.{getD, length}
+use Rattle.model.specs.Calls.{sideIn, storeWith}
+use Rattle.model.specs.Entry.{Entry, added, copied, deleted, empty, modified, normal}
+use Rattle.model.specs.History.{Bytes, isBytes, last, sheet}
+use Rattle.model.specs.Machine.{Side, blocksFor, chosen, commitChanges, entry, newCommit}
+use Rattle.model.specs.Refusals.{noRoom, nothingChosen}
+use Rattle.model.specs.Shows.{Accepted}
+use Rattle.model.specs.Store.{blockUsed, storeHistory, usedOf}
+use Rattle.model.specs.WorkCopy.{seatOf}
+use Rattle.commits.specs.declared.Outcome.{Outcome}
+use Rattle.commits.specs.declared.Outcome.the-variants.{Done, NoRoom, Nothing}
+
+-- what the flag and the place of sheet i's entry have to say: whether a normal entry is modified, and whether "copies whose bytes differ from the source's at the source
+-- revision" is of this one; the block that the source uses
+abbrev pub RightAt : Bytes → ℕ → Entry → ℕ → ℕ → Type 0
+RightAt store i empty flag place = Unit {0}
+RightAt store i (normal b x) flag place = modified (storeHistory store) i b x ≡ not (eqb flag 0)
+RightAt store i (added x) flag place = Unit {0}
+RightAt store i (deleted b) flag place = Unit {0}
+RightAt store i (copied s r x) flag place = (isBytes x (sheet (storeHistory store) r s) ≡ eqb flag 0) × (place ≡ blockUsed store r s)
+
+-- a flag and a place for each sheet, right for the chosen ones
+pub record RightFlags (store copy : Bytes) (mask : ℕ) (changed places : List ℕ) : Type 0 where
+  pub flags : length changed ≡ 32
+  pub spots : length places ≡ 32
+  pub each : (i : ℕ) → i < 32 → chosen mask i ≡ true → RightAt store i (entry (sideIn store copy) i) (getD changed i 0) (getD places i 0)
+
+-- what is asked: buffers that are accepted, the numbers that they state, and flags that are right
+pub record Asked (store copy : Bytes) (used revision seat mask : ℕ) (changed places : List ℕ) : Type 0 where
+  pub taken : Accepted store copy
+  pub uses : used ≡ usedOf store
+  pub next : revision ≡ suc (last (storeHistory store))
+  pub by : seat ≡ seatOf copy
+  pub right : RightFlags store copy mask changed places
+
+-- refusal 10, refusal 13, or U + k + 1
+abbrev pub outcomeIn : Side → ℕ → Outcome
+outcomeIn d mask = cond (nothingChosen d mask) Nothing (cond (noRoom d mask) NoRoom (Done (d .used + blocksFor (d .history) (commitChanges (d .history) mask (d .entries)))))
+
+-- the store's bytes then
+abbrev pub storeIn : Bytes → Bytes → ℕ → ℕ → Bytes
+storeIn store copy stamp mask =
+    let d = sideIn store copy in
+    cond (nothingChosen d mask) store (cond (noRoom d mask) store (storeWith store (newCommit d stamp mask ∷ [])))
+
+-- the answer, and what is left in the store
+pub record Answered (store copy store′ : Bytes) (stamp mask : ℕ) (r : Outcome) : Type 0 where
+  pub says : r ≡ outcomeIn (sideIn store copy) mask
+  pub bytes : store′ ≡ storeIn store copy stamp mask
