@@ -1,9 +1,12 @@
 // Every call of document 01, total: it checks what it is handed in the document's order, and either does its work or answers the refusal and leaves every buffer unchanged.
 // Each promise is one equation with the call's meaning in crates/model/specs/Calls.antt.
-ghost use mathlib.Core.Path.{_≡_};
+ghost use mathlib.Core.Bool.{_||_};
 ghost use mathlib.Core.List.{[]};
+ghost use mathlib.Core.Path.{_≡_};
+ghost use lib.Dec.{ltb};
 ghost use Rattle.model.specs.Calls.{createCopy, createStore, logCall, partOf, readPlace, sizeCondition};
-ghost use Rattle.model.specs.Types.{answerOf, createdAs};
+ghost use Rattle.model.specs.Refusals.{noSheet};
+ghost use Rattle.model.specs.Types.{answerOf, createdAs, numberOf};
 ghost use Rattle.store.specs.Opened.{openOf};
 ghost use Rattle.store.specs.declared.Opened.the-variants.{Open};
 ghost use Rattle.engine.specs.Place.{Located, PartAt};
@@ -53,15 +56,22 @@ pub fn create_copy(copy: &mut [u8], seat: u32) -> Answer
 
 // ---- looking
 
+// Line 7 of read and log: a sheet number above 31, or a revision above the last.
+fn beyond(h: Header, revision: u32, sheet: u32) -> bool
+    ensures { λ r. ⌜ r ≡ (noSheet sheet || ltb (h .last) revision) ⌝ }
+{
+    if 31 < sheet {
+        return true;
+    }
+    h.last < revision as usize
+}
+
 // The companion of read, on a store that is open.
 fn place_in(store: &[u8], h: Header, revision: u32, sheet: u32) -> Place
     requires { ⌜ openOf (now store) ≡ Open h ⌝ }
     ensures { λ r. ⌜ Located (now (store .entry)) [] (readPlace (now (store .entry)) revision sheet) r ⌝ }
 {
-    if 31 < sheet {
-        return Place::Refused(Refusal::Range);
-    }
-    if h.last < revision as usize {
+    if beyond(h, revision, sheet) {
         return Place::Refused(Refusal::Range);
     }
     let n = store.len() / 512;
@@ -104,13 +114,10 @@ fn log_in(store: &[u8], h: Header, revision: u32, sheet: u32) -> Answer
     requires { ⌜ openOf (now store) ≡ Open h ⌝ }
     ensures { λ r. ⌜ answerOf r ≡ logCall (now (store .entry)) revision sheet ⌝ }
 {
-    if 31 < sheet {
-        return Answer::Refused(Refusal::Range);
-    }
     if revision == 0 {
         return Answer::Refused(Refusal::Range);
     }
-    if h.last < revision as usize {
+    if beyond(h, revision, sheet) {
         return Answer::Refused(Refusal::Range);
     }
     let n = store.len() / 512;
@@ -125,5 +132,28 @@ pub fn log(store: &[u8], revision: u32, sheet: u32) -> Answer
     match opened {
         Opened::Refused(k) => Answer::Refused(k),
         Opened::Open(h) => log_in(store, h, revision, sheet),
+    }
+}
+
+// ---- answers as numbers
+
+// The document's number of a refusal.
+pub fn number(refusal: Refusal) -> u32
+    ensures { λ r. ⌜ r ≡ numberOf refusal ⌝ }
+{
+    match refusal {
+        Refusal::StoreLength => 1,
+        Refusal::StoreCheck => 2,
+        Refusal::StoreLayout => 3,
+        Refusal::CopyLength => 4,
+        Refusal::CopyLayout => 5,
+        Refusal::Unfit => 6,
+        Refusal::Range => 7,
+        Refusal::Missing => 8,
+        Refusal::Occupied => 9,
+        Refusal::NothingPending => 10,
+        Refusal::OutOfDate => 11,
+        Refusal::Conflict => 12,
+        Refusal::NoRoom => 13,
     }
 }
