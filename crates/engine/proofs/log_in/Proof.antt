@@ -2,10 +2,10 @@
 -- Assumes nothing.
 use mathlib.Core.Path.{_∙_, sym}
 use native.Mathlib.Omega.{arith}
-use Rattle.search.proofs.Finding.{open-asked}
-use Rattle.engine.proofs.Looking.{in-range, log-beyond, log-there, log-zero}
 use borrow.Author.Needs.{needs}
+use Rattle.engine.proofs.Looking.{in-range, log-beyond, log-there, log-zero}
 use Rattle.engine.proofs.log_in.Statement.{statement}
+use Rattle.search.proofs.Finding.{open-asked}
 use Rattle.engine.proofs.log_in.Tie as tie
 
 returns : tie.Need-returns

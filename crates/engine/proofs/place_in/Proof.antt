@@ -2,12 +2,12 @@
 -- Assumes nothing.
 use mathlib.Core.Path.{_∙_, ap, sym}
 use native.Mathlib.Omega.{arith}
+use borrow.Author.Needs.{needs}
 use Rattle.model.specs.Store.{blockCount}
+use Rattle.engine.proofs.Looking.{in-range, read-beyond, read-lacking, read-there}
+use Rattle.engine.proofs.place_in.Statement.{statement}
 use Rattle.search.proofs.Finding.{block-inside, open-asked}
 use Rattle.search.specs.declared.Found.{Found}
-use Rattle.engine.proofs.Looking.{in-range, read-beyond, read-lacking, read-there}
-use borrow.Author.Needs.{needs}
-use Rattle.engine.proofs.place_in.Statement.{statement}
 use Rattle.engine.proofs.place_in.Tie as tie
 
 beyond-requires : tie.Need-beyond-requires
