@@ -3,18 +3,21 @@
 -- that the code meets the contract (`met`) stands in the same record.
 -- Assumes nothing.
 use Prim.Native.Nat.{_≤_, ℕ}
-use mathlib.Core.Bool.{false, true}
+use mathlib.Core.Bool.{_||_, false, true}
 use mathlib.Core.List.{[]}
 use mathlib.Core.Logic.{_↔_}
 use mathlib.Core.Option.{some}
 use mathlib.Core.Path.{_∙_, _≡_, ap, refl, subst, sym}
 use native.Mathlib.Omega.{arith}
+use borrow.Author.Tests.{le-ltb}
 use denote.Ref.{RefT, now}
+use lib.Dec.{ltb}
 use lib.ListN.{drop, take}
-use Rattle.model.specs.Calls.{Place, partOf, readPlace, storeConditions}
+use Rattle.model.specs.Calls.{Place, logCall, partOf, readPlace, storeConditions}
 use Rattle.model.specs.Demand2.{LaidStore}
 use Rattle.model.specs.History.{Bytes, History, commitAt, last, present, sheet}
 use Rattle.model.specs.Machine.{logOf}
+use Rattle.model.specs.Refusals.{noSheet}
 use Rattle.model.specs.Store.{Holds, blockCount, blockUsed, checked, lawful, storeHistory, usedOf}
 use Rattle.model.specs.Types.{answerOf}
 use Rattle.model.specs.declared.Answer.{Answer}
@@ -23,7 +26,7 @@ use Rattle.laws.proofs.Conditions.{clear}
 use Rattle.laws.proofs.Demand2.{demand-two}
 use Rattle.laws.proofs.Places.{heard-block}
 use Rattle.laws.proofs.Store.{accepted-holds}
-use Rattle.engine.proofs.Looking.{log-there, read-found}
+use Rattle.engine.proofs.Looking.{beyond-last, log-there, read-found}
 use Rattle.search.proofs.Finding.{block-lacks, open-asked}
 use Rattle.search.proofs.Revisions.{passed}
 use Rattle.store.proofs.Opening.{accepted-open, open-accepted}
@@ -68,20 +71,20 @@ pub record CodeDemand2 : Type 2 where
 
 -- THE PROOF
 
+abbrev headOf : Bytes → Header
+headOf store = record { last = last (storeHistory store); used = usedOf store }
+
 opens-as : (store : Bytes) (r : Opened) → r ≡ openOf store → Opens store r
 opens-as store r e =
     let D = demand-two store [] in
     record {
       accepted = (
         λ p. D .store-accepted .0 (open-accepted store (p .0) (sym e ∙ p .1) .0),
-        λ p. (record { last = last (storeHistory store); used = usedOf store }, e ∙ accepted-open store (D .store-accepted .1 p)),
+        λ p. (headOf store, e ∙ accepted-open store (D .store-accepted .1 p)),
       );
       length = λ t h o L. open-accepted store t (sym e ∙ o) .1 ∙ ap last (D .store-read h L);
       read-back = λ h L. D .store-read h L;
     }
-
-abbrev headOf : Bytes → Header
-headOf store = record { last = last (storeHistory store); used = usedOf store }
 
 -- the layout of a history is open, with that history in it
 laid-open : (store : Bytes) (h : History) → LaidStore store h → (openOf store ≡ Open (headOf store)) × (storeHistory store ≡ h)
@@ -89,28 +92,31 @@ laid-open store h L =
     let D = demand-two store [] in
     (accepted-open store (D .store-accepted .1 (h, L)), D .store-read h L)
 
-module _ (store : Bytes) (t : Header) (e : openOf store ≡ Open t) where
-  held : Holds (blockCount store) store (storeHistory store)
-  held =
-      let c = clear (storeConditions store) (open-accepted store t e .0) in
-      accepted-holds (blockCount store) store (passed store (blockCount store) (t .used) (open-asked store t e) .whole)
-      (is-T (checked (blockCount store) store) (c .1 .0)) (is-T (lawful (blockCount store) store) (c .1 .1 .0))
+module _ (store : Bytes) (e : openOf store ≡ Open (headOf store)) (R i : ℕ) (l : R ≤ last (storeHistory store)) (g : i ≤ 31) where
+  in-line : (noSheet i || ltb (last (storeHistory store)) R) ≡ false
+  in-line = sym (beyond-last i (ltb (last (storeHistory store)) R) g) ∙ le-ltb (last (storeHistory store)) R l
 
-  module _ (R i : ℕ) (l : R ≤ t .last) (g : i ≤ 31) (b : Bytes) (s : sheet (storeHistory store) R i ≡ some b) where
-    within : R ≤ last (storeHistory store)
-    within = let q = open-accepted store t e .1 in omega arith
+  log-tells : 1 ≤ R → logCall store R i ≡ logOf (commitAt (storeHistory store) R) i
+  log-tells one = sym (log-there store R i (headOf store) e in-line (λ z. omega arith))
+
+  module _ (b : Bytes) (s : sheet (storeHistory store) R i ≡ some b) where
+    held : Holds (blockCount store) store (storeHistory store)
+    held =
+        let c = clear (storeConditions store) (open-accepted store (headOf store) e .0) in
+        accepted-holds (blockCount store) store (passed store (blockCount store) (usedOf store) (open-asked store (headOf store) e) .whole)
+        (is-T (checked (blockCount store) store) (c .1 .0)) (is-T (lawful (blockCount store) store) (c .1 .1 .0))
 
     used : blockUsed store R i ≡ 0 → ⊥
     used z =
-        let n : present (sheet (storeHistory store) R i) ≡ false = block-lacks store (blockCount store) (t .used) (open-asked store t e) R i within .0 z in
+        let n : present (sheet (storeHistory store) R i) ≡ false = block-lacks store (blockCount store) (usedOf store) (open-asked store (headOf store) e) R i l .0 z in
         let y : present (sheet (storeHistory store) R i) ≡ true = ap present s in
         let w : _≡_ {A = ℕ} 0 1 = cc in
         omega arith
 
     read-bytes : take (partOf (readPlace store R i) .1) (drop (partOf (readPlace store R i) .0) store) ≡ b
     read-bytes =
-        let heard = heard-block (blockCount store) store [] (storeHistory store) R i b refl held within s in
-        ap (λ (q : Place). take (partOf q .1) (drop (partOf q .0) store)) (sym (read-found store R i t e g l used)) ∙ cc heard
+        let heard = heard-block (blockCount store) store [] (storeHistory store) R i b refl held l s in
+        ap (λ (q : Place). take (partOf q .1) (drop (partOf q .0) store)) (sym (read-found store R i (headOf store) e in-line used)) ∙ cc heard
 
 pub code-demand-two : CodeDemand2
 code-demand-two = record {
@@ -121,10 +127,10 @@ code-demand-two = record {
   reads = λ κs x x′ r R i R′ i′ e h L l g b s.
       let o = laid-open (now x) h L in
       e .bytes
-      ∙ read-bytes (now x) (headOf (now x)) (o .0) R i (subst (λ (y : History). R ≤ last y) (sym (o .1)) l) g b (subst (λ (y : History). sheet y R i ≡ some b) (sym (o .1)) s);
+      ∙ read-bytes (now x) (o .0) R i (subst (λ (y : History). R ≤ last y) (sym (o .1)) l) g b (subst (λ (y : History). sheet y R i ≡ some b) (sym (o .1)) s);
   logs = λ κs x x′ r R i R′ i′ e h L one l g.
       let o = laid-open (now x) h L in
       e
-      ∙ sym (log-there (now x) R i (headOf (now x)) (o .0) g (subst (λ (y : History). R ≤ last y) (sym (o .1)) l) (λ z. omega arith))
+      ∙ log-tells (now x) (o .0) R i (subst (λ (y : History). R ≤ last y) (sym (o .1)) l) g one
       ∙ ap (λ (y : History). logOf (commitAt y R) i) (o .1);
 }

@@ -6,8 +6,8 @@ use mathlib.Core.List.{[], _∷_}
 use mathlib.Core.Option.{Option}
 use mathlib.Core.Path.{_∙_, _≡_, ap, ap₂, refl, sym}
 use native.Mathlib.Omega.{arith}
-use borrow.Author.Tests.{eq-eqb, le-ltb, lt-ltb, ne-eqb}
-use lib.Dec.{eqb}
+use borrow.Author.Tests.{eq-eqb, le-ltb, lt-ltb, ltb-false, ne-eqb}
+use lib.Dec.{eqb, ltb}
 use Rattle.model.specs.Calls.{answerBy, blockPlace, inStore, logCall, noPlace, placeBy, readPlace, storeSide}
 use Rattle.model.specs.History.{Bytes, last, present, sheet}
 use Rattle.model.specs.Machine.{Log, Read, doing, refused}
@@ -17,6 +17,7 @@ use Rattle.model.specs.Types.{numberOf, placeOf}
 use Rattle.model.specs.declared.Place.the-variants.{InStore}
 use Rattle.model.specs.declared.Refusal.{Refusal}
 use Rattle.model.specs.declared.Span.{Span}
+use Rattle.laws.proofs.Rows.{or-false}
 use Rattle.engine.proofs.Refusing.{store-open, store-refused}
 use Rattle.search.proofs.Finding.{block-holds, block-lacks, open-asked}
 use Rattle.search.specs.Find.{spanOf}
@@ -25,12 +26,22 @@ use Rattle.store.specs.Opened.{openOf}
 use Rattle.store.specs.declared.Header.{Header}
 use Rattle.store.specs.declared.Opened.the-variants.{Open, Refused}
 
--- a sheet number above 31 is line 7, whatever else is; and one up to 31 leaves the rest of the line
-past-sheet : (i : ℕ) (t : Bool) → 31 < i → (noSheet i || t) ≡ true
-past-sheet i t g = ap (λ (b : Bool). b || t) (lt-ltb 31 i g)
+-- the ways through `beyond`
+pub beyond-sheet : (i : ℕ) (t : Bool) → 31 < i → true ≡ (noSheet i || t)
+beyond-sheet i t g = sym (ap (λ (b : Bool). b || t) (lt-ltb 31 i g))
 
-else-line : (i : ℕ) (t u : Bool) → i ≤ 31 → t ≡ u → (noSheet i || t) ≡ u
-else-line i t u g e = ap (λ (b : Bool). b || t) (le-ltb 31 i g) ∙ e
+pub beyond-last : (i : ℕ) (t : Bool) → i ≤ 31 → t ≡ (noSheet i || t)
+beyond-last i t g = sym (ap (λ (b : Bool). b || t) (le-ltb 31 i g))
+
+-- log's line 7 is that of read, or that the revision is 0
+zero-line : (a b c : Bool) → b ≡ true → (a || (b || c)) ≡ true
+zero-line true b c e = refl
+zero-line false true c e = refl
+zero-line false false c e = let w : _≡_ {A = ℕ} 0 1 = cc in absurd (omega arith)
+
+other-line : (a b c d : Bool) → b ≡ false → (a || c) ≡ d → (a || (b || c)) ≡ d
+other-line a false c d z e = e
+other-line a true c d z e = let w : _≡_ {A = ℕ} 0 1 = cc in absurd (omega arith)
 
 module _ (store : Bytes) (R i : ℕ) where
   pub read-refused : (k : Refusal) → openOf store ≡ Refused k → noPlace (numberOf k) ≡ readPlace store R i
@@ -43,14 +54,12 @@ module _ (store : Bytes) (R i : ℕ) where
 
   module _ (h : Header) (e : openOf store ≡ Open h) where
     -- the numbers of the header are the store's
-    pub last-is : h .last ≡ last (storeHistory store)
+    last-is : h .last ≡ last (storeHistory store)
     last-is = open-accepted store h e .1
 
-    late : h .last < R → tooLate (storeHistory store) R ≡ true
-    late g = let l = last-is in lt-ltb (last (storeHistory store)) R (omega arith)
-
-    early : R ≤ h .last → tooLate (storeHistory store) R ≡ false
-    early g = let l = last-is in le-ltb (last (storeHistory store)) R (omega arith)
+    -- line 7, with the header's last revision
+    line : (a : Bool) → (noSheet i || ltb (h .last) R) ≡ a → (noSheet i || tooLate (storeHistory store) R) ≡ a
+    line a b = ap (λ (n : ℕ). noSheet i || ltb n R) (sym last-is) ∙ b
 
     read-by : (a b : Bool) → (noSheet i || tooLate (storeHistory store) R) ≡ a → not (present (sheet (storeHistory store) R i)) ≡ b
         → placeBy (firstOf (7 when a ∷ 8 when b ∷ [])) (blockPlace store (blockUsed store R i)) ≡ readPlace store R i
@@ -68,45 +77,34 @@ module _ (store : Bytes) (R i : ℕ) where
         (ap (λ (o : Option ℕ). answerBy o (doing (storeSide store) (Log R i) .0)) (store-open store (Log R i) (open-accepted store h e .0))
         ∙ ap (λ (x : Bool). answerBy (firstOf (7 when x ∷ [])) (doing (storeSide store) (Log R i) .0)) p)
 
-    pub read-no-sheet : 31 < i → noPlace 7 ≡ readPlace store R i
-    read-no-sheet g = read-by true _ (past-sheet i (tooLate (storeHistory store) R) g) refl
+    pub read-beyond : (noSheet i || ltb (h .last) R) ≡ true → noPlace 7 ≡ readPlace store R i
+    read-beyond b = read-by true _ (line true b) refl
 
-    pub log-no-sheet : 31 < i → refused 7 ≡ logCall store R i
-    log-no-sheet g = log-by true (past-sheet i (eqb R 0 || tooLate (storeHistory store) R) g)
+    pub log-zero : R ≡ 0 → refused 7 ≡ logCall store R i
+    log-zero z = log-by true (zero-line (noSheet i) (eqb R 0) (tooLate (storeHistory store) R) (eq-eqb R 0 z))
 
-    module _ (g : i ≤ 31) where
-      pub read-late : h .last < R → noPlace 7 ≡ readPlace store R i
-      read-late l = read-by true _ (else-line i (tooLate (storeHistory store) R) true g (late l)) refl
+    log-line : (R ≡ 0 → ⊥) → (a : Bool) → (noSheet i || ltb (h .last) R) ≡ a → (noSheet i || (eqb R 0 || tooLate (storeHistory store) R)) ≡ a
+    log-line z a b = other-line (noSheet i) (eqb R 0) (tooLate (storeHistory store) R) a (ne-eqb R 0 z) (line a b)
 
-      pub log-zero : R ≡ 0 → refused 7 ≡ logCall store R i
-      log-zero z =
-          let late-too = tooLate (storeHistory store) R in
-          log-by true (else-line i (eqb R 0 || late-too) true g (ap (λ (t : Bool). t || late-too) (eq-eqb R 0 z)))
+    pub log-beyond : (R ≡ 0 → ⊥) → (noSheet i || ltb (h .last) R) ≡ true → refused 7 ≡ logCall store R i
+    log-beyond z b = log-by true (log-line z true b)
 
-      log-range : (R ≡ 0 → ⊥) → (u : Bool) → tooLate (storeHistory store) R ≡ u → (noSheet i || (eqb R 0 || tooLate (storeHistory store) R)) ≡ u
-      log-range z u l =
-          let late-too = tooLate (storeHistory store) R in
-          else-line i (eqb R 0 || late-too) u g (ap (λ (t : Bool). t || late-too) (ne-eqb R 0 z) ∙ l)
+    module _ (b : (noSheet i || ltb (h .last) R) ≡ false) where
+      pub in-range : (i < 32) × (R ≤ last (storeHistory store))
+      in-range =
+          let p = or-false (noSheet i) (tooLate (storeHistory store) R) (line false b) in
+          let q : i ≤ 31 = ltb-false 31 i (p .0) in
+          (omega arith, ltb-false (last (storeHistory store)) R (p .1))
 
-      pub log-late : (R ≡ 0 → ⊥) → h .last < R → refused 7 ≡ logCall store R i
-      log-late z l = log-by true (log-range z true (late l))
+      pub read-lacking : blockUsed store R i ≡ 0 → noPlace 8 ≡ readPlace store R i
+      read-lacking z = read-by false true (line false b) (ap not (block-lacks store (blockCount store) (h .used) (open-asked store h e) R i (in-range .1) .0 z))
 
-      module _ (l : R ≤ h .last) where
-        within : R ≤ last (storeHistory store)
-        within = let q = last-is in omega arith
+      pub read-found : (blockUsed store R i ≡ 0 → ⊥) → blockPlace store (blockUsed store R i) ≡ readPlace store R i
+      read-found z =
+          read-by false false (line false b) (ap (λ o. not (present o)) (block-holds store (blockCount store) (h .used) (open-asked store h e) R i (in-range .1) z))
 
-        pub read-lacking : blockUsed store R i ≡ 0 → noPlace 8 ≡ readPlace store R i
-        read-lacking z =
-            read-by false true (else-line i (tooLate (storeHistory store) R) false g (early l))
-            (ap not (block-lacks store (blockCount store) (h .used) (open-asked store h e) R i within .0 z))
+      pub read-there : (p : ℕ) (x : Span) → p ≡ blockUsed store R i → (p ≡ 0 → ⊥) → x ≡ spanOf store p → placeOf (InStore x) ≡ readPlace store R i
+      read-there p x u z s = ap (λ (y : Span). inStore (y .start) (y .len)) s ∙ ap (blockPlace store) u ∙ read-found (λ y. z (u ∙ y))
 
-        pub read-found : (blockUsed store R i ≡ 0 → ⊥) → blockPlace store (blockUsed store R i) ≡ readPlace store R i
-        read-found z =
-            read-by false false (else-line i (tooLate (storeHistory store) R) false g (early l))
-            (ap (λ o. not (present o)) (block-holds store (blockCount store) (h .used) (open-asked store h e) R i within z))
-
-        pub read-there : (p : ℕ) (x : Span) → p ≡ blockUsed store R i → (p ≡ 0 → ⊥) → x ≡ spanOf store p → placeOf (InStore x) ≡ readPlace store R i
-        read-there p x u z s = ap (λ (y : Span). inStore (y .start) (y .len)) s ∙ ap (blockPlace store) u ∙ read-found (λ y. z (u ∙ y))
-
-        pub log-there : (R ≡ 0 → ⊥) → doing (storeSide store) (Log R i) .0 ≡ logCall store R i
-        log-there z = log-by false (log-range z false (early l))
+      pub log-there : (R ≡ 0 → ⊥) → doing (storeSide store) (Log R i) .0 ≡ logCall store R i
+      log-there z = log-by false (log-line z false b)

@@ -28,3 +28,17 @@ pub record PartAt (s r : RefT (List ℕ)) (part : ℕ × ℕ) : Type 0 where
   pub block : r .ptr .0 ≡ s .ptr .0
   pub offset : r .ptr .1 ≡ s .ptr .1 + part .0
   pub bytes : r .now ≡ take (part .1) (drop (part .0) (s .now))
+
+-- an entry in this state has bytes of its own: normal, added or copied
+abbrev pub hasOwn : State → Bool
+hasOwn Empty = false
+hasOwn (Normal b) = true
+hasOwn Added = true
+hasOwn (Deleted b) = false
+hasOwn (Copied s) = true
+
+-- r is the part that a place names, of the store s or of the working copy c; refused, the empty part at the store's start
+abbrev pub ShownAt : RefT (List ℕ) → RefT (List ℕ) → RefT (List ℕ) → Place → Type 0
+ShownAt s c r (noPlace n) = PartAt s r (0, 0)
+ShownAt s c r (inStore p m) = PartAt s r (p, m)
+ShownAt s c r (inCopy p m) = PartAt c r (p, m)

@@ -1,16 +1,23 @@
 // Every call of document 01, total: it checks what it is handed in the document's order, and either does its work or answers the refusal and leaves every buffer unchanged.
 // Each promise is one equation with the call's meaning in crates/model/specs/Calls.antt.
-ghost use mathlib.Core.Path.{_≡_};
+ghost use mathlib.Core.Bool.{_||_};
 ghost use mathlib.Core.List.{[]};
-ghost use Rattle.model.specs.Calls.{addCall, copyCall, createCopy, createStore, deleteCall, editCall, logCall, moveCall, out, partOf, readPlace, sizeCondition};
-ghost use Rattle.model.specs.Types.{answerOf, createdAs};
+ghost use mathlib.Core.Path.{_≡_};
+ghost use lib.Dec.{ltb};
+ghost use Rattle.entries.specs.View.{Fitting};
+ghost use Rattle.model.specs.Calls.{addCall, copyCall, createCopy, createStore, deleteCall, editCall, logCall, moveCall, out, partOf, readPlace, showPlace, sizeCondition, statusCall};
+ghost use Rattle.model.specs.Refusals.{noSheet};
+ghost use Rattle.model.specs.Types.{answerOf, createdAs, numberOf};
 ghost use Rattle.store.specs.Opened.{openOf};
 ghost use Rattle.store.specs.declared.Opened.the-variants.{Open};
-ghost use Rattle.engine.specs.Place.{Located, PartAt};
+ghost use Rattle.engine.specs.Place.{Located, PartAt, ShownAt, hasOwn};
 use entries::Checked;
+use entries::View;
 use model::Answer;
 use model::Place;
 use model::Refusal;
+use model::Span;
+use model::State;
 use store::Header;
 use store::Opened;
 
@@ -54,15 +61,22 @@ pub fn create_copy(copy: &mut [u8], seat: u32) -> Answer
 
 // ---- looking
 
+// Line 7 of read and log: a sheet number above 31, or a revision above the last.
+fn beyond(h: Header, revision: u32, sheet: u32) -> bool
+    ensures { λ r. ⌜ r ≡ (noSheet sheet || ltb (h .last) revision) ⌝ }
+{
+    if 31 < sheet {
+        return true;
+    }
+    h.last < revision as usize
+}
+
 // The companion of read, on a store that is open.
 fn place_in(store: &[u8], h: Header, revision: u32, sheet: u32) -> Place
     requires { ⌜ openOf (now store) ≡ Open h ⌝ }
     ensures { λ r. ⌜ Located (now (store .entry)) [] (readPlace (now (store .entry)) revision sheet) r ⌝ }
 {
-    if 31 < sheet {
-        return Place::Refused(Refusal::Range);
-    }
-    if h.last < revision as usize {
+    if beyond(h, revision, sheet) {
         return Place::Refused(Refusal::Range);
     }
     let n = store.len() / 512;
@@ -105,13 +119,10 @@ fn log_in(store: &[u8], h: Header, revision: u32, sheet: u32) -> Answer
     requires { ⌜ openOf (now store) ≡ Open h ⌝ }
     ensures { λ r. ⌜ answerOf r ≡ logCall (now (store .entry)) revision sheet ⌝ }
 {
-    if 31 < sheet {
-        return Answer::Refused(Refusal::Range);
-    }
     if revision == 0 {
         return Answer::Refused(Refusal::Range);
     }
-    if h.last < revision as usize {
+    if beyond(h, revision, sheet) {
         return Answer::Refused(Refusal::Range);
     }
     let n = store.len() / 512;
@@ -128,6 +139,97 @@ pub fn log(store: &[u8], revision: u32, sheet: u32) -> Answer
         Opened::Open(h) => log_in(store, h, revision, sheet),
     }
 }
+
+// Whether an entry in this state has bytes of its own.
+fn own_bytes(s: State) -> bool
+    ensures { λ r. ⌜ r ≡ hasOwn s ⌝ }
+{
+    match s {
+        State::Empty => false,
+        State::Normal(_) => true,
+        State::Added => true,
+        State::Deleted(_) => false,
+        State::Copied(_) => true,
+    }
+}
+
+// The companion of show, on a store and a working copy that fits it.
+fn shown_in<'a>(store: &'a [u8], copy: &'a [u8], v: View, sheet: u32) -> Place
+    requires { ⌜ Fitting (now store) (now copy) v ⌝ }
+    ensures { λ r. ⌜ Located (now (store .entry)) (now (copy .entry)) (showPlace (now (store .entry)) (now (copy .entry)) sheet) r ⌝ }
+{
+    if 31 < sheet {
+        return Place::Refused(Refusal::Range);
+    }
+    let i = sheet as usize;
+    let e = workcopy::entry_at(copy, i);
+    let state = e.state;
+    if own_bytes(state) {
+        let start = 512 * (1 + i) + 16;
+        let len = e.len;
+        return Place::InCopy(Span { start, len });
+    }
+    let found = search::look_up(store, v.n, v.used, v.last, i);
+    if found.block == 0 {
+        return Place::Refused(Refusal::Missing);
+    }
+    Place::InStore(search::span_at(store, found.block))
+}
+
+// The companion of show: the refusal, or where the bytes stand, in the working copy or in the store.
+pub fn show_place<'a>(store: &'a [u8], copy: &'a [u8], sheet: u32) -> Place
+    ensures { λ r. ⌜ Located (now (store .entry)) (now (copy .entry)) (showPlace (now (store .entry)) (now (copy .entry)) sheet) r ⌝ }
+{
+    let c = entries::check(store, copy);
+    match c {
+        Checked::Refused(k) => Place::Refused(k),
+        Checked::Ready(v) => shown_in(store, copy, v, sheet),
+    }
+}
+
+// The seat's own bytes, a part of the working copy, or the last revision's, a part of the store; refused, the empty part at the store's start.
+pub fn show<'a>(store: &'a [u8], copy: &'a [u8], sheet: u32) -> &'a [u8]
+    ensures { λ r. ⌜ ShownAt (store .entry) (copy .entry) r (showPlace (now (store .entry)) (now (copy .entry)) sheet) ⌝ }
+{
+    let place = show_place(store, copy, sheet);
+    match place {
+        Place::Refused(_) => &store[0..0],
+        Place::InStore(p) => {
+            let a = p.start;
+            let e = a + p.len;
+            &store[a..e]
+        }
+        Place::InCopy(p) => {
+            let a = p.start;
+            let e = a + p.len;
+            &copy[a..e]
+        }
+    }
+}
+
+// The status of an entry, on a store and a working copy that fits it.
+fn status_in<'a>(store: &'a [u8], copy: &'a [u8], v: View, sheet: u32) -> Answer
+    requires { ⌜ Fitting (now store) (now copy) v ⌝ }
+    ensures { λ r. ⌜ answerOf r ≡ statusCall (now (store .entry)) (now (copy .entry)) sheet ⌝ }
+{
+    if 31 < sheet {
+        return Answer::Refused(Refusal::Range);
+    }
+    Answer::Status(entries::status_at(store, copy, v, sheet as usize))
+}
+
+// The status of a sheet's entry, 0 to 8.
+pub fn status<'a>(store: &'a [u8], copy: &'a [u8], sheet: u32) -> Answer
+    ensures { λ r. ⌜ answerOf r ≡ statusCall (now (store .entry)) (now (copy .entry)) sheet ⌝ }
+{
+    let c = entries::check(store, copy);
+    match c {
+        Checked::Refused(k) => Answer::Refused(k),
+        Checked::Ready(v) => status_in(store, copy, v, sheet),
+    }
+}
+
+// ---- changing a working copy
 
 // Add: the empty entry of a sheet becomes added, with these bytes.
 pub fn add(store: &[u8], copy: &mut [u8], sheet: u32, bytes: &[u8]) -> Answer
@@ -181,5 +283,28 @@ pub fn move_sheet(store: &[u8], copy: &mut [u8], from: u32, to: u32) -> Answer
     match c {
         Checked::Refused(k) => Answer::Refused(k),
         Checked::Ready(v) => local::move_sheet(copy, from, to),
+    }
+}
+
+// ---- answers as numbers
+
+// The document's number of a refusal.
+pub fn number(refusal: Refusal) -> u32
+    ensures { λ r. ⌜ r ≡ numberOf refusal ⌝ }
+{
+    match refusal {
+        Refusal::StoreLength => 1,
+        Refusal::StoreCheck => 2,
+        Refusal::StoreLayout => 3,
+        Refusal::CopyLength => 4,
+        Refusal::CopyLayout => 5,
+        Refusal::Unfit => 6,
+        Refusal::Range => 7,
+        Refusal::Missing => 8,
+        Refusal::Occupied => 9,
+        Refusal::NothingPending => 10,
+        Refusal::OutOfDate => 11,
+        Refusal::Conflict => 12,
+        Refusal::NoRoom => 13,
     }
 }

@@ -1,0 +1,2 @@
+-- The definitions that the contracts of `sheetstore` cite.
+pub mod Numbers

@@ -1,0 +1,48 @@
+-- The structs of src/lib.rt, from the answers and places of the meanings: a refusal's number, or 0 and the call's numbers. What a struct has no case for is zero.
+-- Assumes nothing.
+use Prim.Native.Nat.{ℕ}
+use Rattle.model.specs.Calls.{Created, Place, inCopy, inStore, noPlace}
+use Rattle.model.specs.History.{Bytes}
+use Rattle.model.specs.Machine.{Answer, bytes, done, logged, refused, revision, status}
+use Rattle.sheetstore.specs.declared.SheetsAnswer.{SheetsAnswer}
+use Rattle.sheetstore.specs.declared.SheetsLog.{SheetsLog}
+use Rattle.sheetstore.specs.declared.SheetsPart.{SheetsPart}
+
+abbrev pub valued : ℕ → ℕ → SheetsAnswer
+valued n v = record { refusal = n; value = v }
+
+abbrev pub answerNumbers : Answer → SheetsAnswer
+answerNumbers (refused n) = valued n 0
+answerNumbers done = valued 0 0
+answerNumbers (revision R) = valued 0 R
+answerNumbers (bytes x) = valued 0 0
+answerNumbers (status n) = valued 0 n
+answerNumbers (logged seat stamp m a s R) = valued 0 0
+
+-- an answer of create, beside the buffer that it makes
+pub record Left : Type 0 where
+  pub numbers : SheetsAnswer
+  pub buffer : Bytes
+
+abbrev pub left : SheetsAnswer → Bytes → Left
+left r b = record { numbers = r; buffer = b }
+
+abbrev pub leftNumbers : Created → Left
+leftNumbers c = left (answerNumbers (c .says)) (c .buffer)
+
+-- buffer 0 is the store, 1 the working copy
+abbrev pub partNumbers : Place → SheetsPart
+partNumbers (noPlace n) = record { refusal = n; buffer = 0; start = 0; len = 0 }
+partNumbers (inStore p m) = record { refusal = 0; buffer = 0; start = p; len = m }
+partNumbers (inCopy p m) = record { refusal = 0; buffer = 1; start = p; len = m }
+
+abbrev pub noLog : ℕ → SheetsLog
+noLog n = record { refusal = n; seat = 0; stamp = 0; changes = 0; action = 0; «source_sheet» = 0; «source_revision» = 0 }
+
+abbrev pub logNumbers : Answer → SheetsLog
+logNumbers (refused n) = noLog n
+logNumbers done = noLog 0
+logNumbers (revision R) = noLog 0
+logNumbers (bytes x) = noLog 0
+logNumbers (status n) = noLog 0
+logNumbers (logged seat stamp m a s R) = record { refusal = 0; seat = seat; stamp = stamp; changes = m; action = a; «source_sheet» = s; «source_revision» = R }

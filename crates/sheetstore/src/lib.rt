@@ -1,0 +1,184 @@
+// The engine for callers in C: every answer as a struct of numbers, which specs/Numbers.antt defines from the answer of the meanings.
+// Each promise is one equation with the call's meaning in crates/model/specs/Calls.antt.
+use model::Action;
+use model::Answer;
+use model::LogEntry;
+use model::Place;
+ghost use mathlib.Core.Path.{_≡_};
+ghost use Rattle.model.specs.Calls.{createCopy, createStore, logCall, readPlace};
+ghost use Rattle.model.specs.Types.{answerOf, placeOf};
+ghost use Rattle.model.specs.declared.Answer.the-variants.{Logged};
+ghost use Rattle.sheetstore.specs.Numbers.{answerNumbers, left, leftNumbers, logNumbers, noLog, partNumbers};
+
+// A refusal's number, or 0 and the revision or status, if the call answers one.
+#[repr(C)]
+pub struct SheetsAnswer {
+    pub refusal: u32,
+    pub value: u32,
+}
+
+// A refusal's number, or 0 and a part: of the store (buffer 0) or of the working copy (buffer 1), its first byte and its length.
+#[repr(C)]
+pub struct SheetsPart {
+    pub refusal: u32,
+    pub buffer: u32,
+    pub start: usize,
+    pub len: usize,
+}
+
+// A refusal's number, or 0 and what log tells: of a commit its seat, stamp and number of changes; of the sheet the action, 0 for nothing, and the source of a copy.
+#[repr(C)]
+pub struct SheetsLog {
+    pub refusal: u32,
+    pub seat: u32,
+    pub stamp: u32,
+    pub changes: u32,
+    pub action: u32,
+    pub source_sheet: u32,
+    pub source_revision: u32,
+}
+
+fn answer_numbers(answer: Answer) -> SheetsAnswer
+    ensures { λ r. ⌜ r ≡ answerNumbers (answerOf answer) ⌝ }
+{
+    match answer {
+        Answer::Refused(k) => {
+            let refusal = engine::number(k);
+            SheetsAnswer { refusal, value: 0 }
+        }
+        Answer::Done => SheetsAnswer {
+            refusal: 0,
+            value: 0,
+        },
+        Answer::Revision(value) => SheetsAnswer { refusal: 0, value },
+        Answer::Status(value) => SheetsAnswer { refusal: 0, value },
+        Answer::Logged(_) => SheetsAnswer {
+            refusal: 0,
+            value: 0,
+        },
+    }
+}
+
+fn part_numbers(place: Place) -> SheetsPart
+    ensures { λ r. ⌜ r ≡ partNumbers (placeOf place) ⌝ }
+{
+    match place {
+        Place::Refused(k) => {
+            let refusal = engine::number(k);
+            SheetsPart {
+                refusal,
+                buffer: 0,
+                start: 0,
+                len: 0,
+            }
+        }
+        Place::InStore(p) => SheetsPart {
+            refusal: 0,
+            buffer: 0,
+            start: p.start,
+            len: p.len,
+        },
+        Place::InCopy(p) => SheetsPart {
+            refusal: 0,
+            buffer: 1,
+            start: p.start,
+            len: p.len,
+        },
+    }
+}
+
+// What log tells of a commit, with this action and source.
+fn told(entry: LogEntry) -> SheetsLog
+    ensures { λ r. ⌜ r ≡ logNumbers (answerOf (Logged entry)) ⌝ }
+{
+    let mut numbers = SheetsLog {
+        refusal: 0,
+        seat: entry.seat,
+        stamp: entry.stamp,
+        changes: entry.changes,
+        action: 0,
+        source_sheet: 0,
+        source_revision: 0,
+    };
+    let action = entry.action;
+    match action {
+        Action::Nothing => numbers,
+        Action::Add => {
+            numbers.action = 1;
+            numbers
+        }
+        Action::Change => {
+            numbers.action = 2;
+            numbers
+        }
+        Action::Delete => {
+            numbers.action = 3;
+            numbers
+        }
+        Action::Copy(source) => {
+            numbers.action = 4;
+            numbers.source_sheet = source.sheet;
+            numbers.source_revision = source.revision;
+            numbers
+        }
+    }
+}
+
+// No log: a refusal's number and zeros.
+fn untold(refusal: u32) -> SheetsLog
+    ensures { λ r. ⌜ r ≡ noLog refusal ⌝ }
+{
+    SheetsLog {
+        refusal,
+        seat: 0,
+        stamp: 0,
+        changes: 0,
+        action: 0,
+        source_sheet: 0,
+        source_revision: 0,
+    }
+}
+
+fn log_numbers(answer: Answer) -> SheetsLog
+    ensures { λ r. ⌜ r ≡ logNumbers (answerOf answer) ⌝ }
+{
+    match answer {
+        Answer::Refused(k) => untold(engine::number(k)),
+        Answer::Done => untold(0),
+        Answer::Revision(_) => untold(0),
+        Answer::Status(_) => untold(0),
+        Answer::Logged(entry) => told(entry),
+    }
+}
+
+// A fresh store.
+#[no_mangle]
+pub extern "C" fn sheets_create_store(store: &mut [u8]) -> SheetsAnswer
+    ensures { λ r. ⌜ left r (now (store .exit)) ≡ leftNumbers (createStore (now (store .entry))) ⌝ }
+{
+    answer_numbers(engine::create_store(store))
+}
+
+// A fresh working copy of a seat.
+#[no_mangle]
+pub extern "C" fn sheets_create_copy(copy: &mut [u8], seat: u32) -> SheetsAnswer
+    ensures { λ r. ⌜ left r (now (copy .exit)) ≡ leftNumbers (createCopy (now (copy .entry)) seat) ⌝ }
+{
+    answer_numbers(engine::create_copy(copy, seat))
+}
+
+// Where the bytes of a sheet of a revision stand in the store.
+#[no_mangle]
+pub extern "C" fn sheets_read(store: &[u8], revision: u32, sheet: u32) -> SheetsPart
+    ensures { λ r. ⌜ r ≡ partNumbers (readPlace (now (store .entry)) revision sheet) ⌝ }
+{
+    part_numbers(engine::read_place(store, revision, sheet))
+}
+
+// What a revision did to a sheet.
+#[no_mangle]
+pub extern "C" fn sheets_log(store: &[u8], revision: u32, sheet: u32) -> SheetsLog
+    ensures { λ r. ⌜ r ≡ logNumbers (logCall (now (store .entry)) revision sheet) ⌝ }
+{
+    log_numbers(engine::log(store, revision, sheet))
+}
