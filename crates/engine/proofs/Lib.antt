@@ -4,3 +4,4 @@ pub mod Looking
 pub mod Parts
 pub mod Demand2
 pub mod Changing
+pub mod Showing

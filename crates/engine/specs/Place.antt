@@ -5,11 +5,14 @@ use mathlib.Core.List.{List}
 use mathlib.Core.Path.{_≡_}
 use denote.Ref.{RefT}
 use lib.ListN.{drop, length, take}
-use Rattle.model.specs.Calls.{Place}
+use mathlib.Core.Bool.{Bool, false, true}
+use Rattle.model.specs.Calls.{Place, inCopy, inStore, noPlace}
 use Rattle.model.specs.History.{Bytes}
 use Rattle.model.specs.Types.{placeOf}
 use Rattle.model.specs.declared.Place.{Place as ThePlace}
 use Rattle.model.specs.declared.Place.the-variants.{InCopy, InStore, Refused}
+use Rattle.model.specs.declared.State.{State}
+use Rattle.model.specs.declared.State.the-variants.{Added, Copied, Deleted, Empty, Normal}
 
 -- a place ends within its buffer
 abbrev pub Inside : Bytes → Bytes → ThePlace → Type 0

@@ -1,0 +1,110 @@
+-- Show and status, one way through at a time, on a store and a working copy that fits it: what the meanings answer where a line refuses the call, and where none does.
+-- Assumes nothing.
+use Prim.Native.Nat.{_*_, _+_, _<_, _≤_, ℕ}
+use mathlib.Core.Bool.{Bool, false, not, true}
+use mathlib.Core.List.{[], _++_, _∷_}
+use mathlib.Core.Option.{Option, none, some}
+use mathlib.Core.Path.{_∙_, _≡_, ap, ap₂, refl, sym}
+use native.Mathlib.Omega.{arith}
+use borrow.Author.Tests.{le-ltb, lt-ltb}
+use lib.ListN.{length}
+use Rattle.model.specs.Calls.{Place, answerBy, blockPlace, copyConditions, inCopy, inStore, noPlace, ownPlace, placeBy, refusalOf, showPlace, sideIn, statusCall, storeConditions}
+use Rattle.model.specs.Entry.{ownBytes}
+use Rattle.model.specs.History.{Bytes, last, newest, present}
+use Rattle.model.specs.Machine.{Call, Show, Status, doing, entry, refused, shown, status, statusOf}
+use Rattle.model.specs.Refusals.{_when_, conditions, firstOf, noSheet}
+use Rattle.model.specs.Store.{blockUsed, storeHistory}
+use Rattle.model.specs.Types.{entryAs, numberOf, placeOf}
+use Rattle.laws.proofs.Conditions.{clear, clear-first}
+use Rattle.engine.proofs.Changing.{check-refusal}
+use Rattle.engine.specs.Place.{hasOwn}
+use Rattle.entries.proofs.Checking.{fitting-accepted}
+use Rattle.entries.specs.View.{Fitting, checkOf}
+use Rattle.search.proofs.Finding.{block-holds, block-lacks}
+use Rattle.search.specs.Find.{spanOf}
+use Rattle.entries.specs.declared.Checked.the-variants.{Refused}
+use Rattle.entries.specs.declared.View.{View}
+use Rattle.model.specs.declared.Place.the-variants.{InStore}
+use Rattle.model.specs.declared.Refusal.{Refusal}
+use Rattle.model.specs.declared.Span.{Span}
+use Rattle.model.specs.declared.State.{State}
+use Rattle.model.specs.declared.State.the-variants.{Added, Copied, Deleted, Empty, Normal}
+
+-- the bytes of an entry in this state
+pub own-some : (s : State) (b : Bytes) → hasOwn s ≡ true → ownBytes (entryAs s b) ≡ some b
+own-some Empty b e = let z : _≡_ {A = ℕ} 0 1 = cc in absurd (omega arith)
+own-some (Normal r) b e = refl
+own-some Added b e = refl
+own-some (Deleted r) b e = let z : _≡_ {A = ℕ} 0 1 = cc in absurd (omega arith)
+own-some (Copied s) b e = refl
+
+pub own-none : (s : State) (b : Bytes) → hasOwn s ≡ false → ownBytes (entryAs s b) ≡ none
+own-none Empty b e = refl
+own-none (Normal r) b e = let z : _≡_ {A = ℕ} 0 1 = cc in absurd (omega arith)
+own-none Added b e = let z : _≡_ {A = ℕ} 0 1 = cc in absurd (omega arith)
+own-none (Deleted r) b e = refl
+own-none (Copied s) b e = let z : _≡_ {A = ℕ} 0 1 = cc in absurd (omega arith)
+
+module _ (store copy : Bytes) where
+  pub show-refused : (k : Refusal) (i : ℕ) → checkOf store copy ≡ Refused k → noPlace (numberOf k) ≡ showPlace store copy i
+  unfolding showPlace
+  show-refused k i e =
+      sym (ap (λ (o : Option ℕ). placeBy o (ownPlace (ownBytes (entry (sideIn store copy) i)) i (blockPlace store (blockUsed store (last (storeHistory store)) i)))) (check-refusal store copy k (Show i) e))
+
+  pub status-refused : (k : Refusal) (i : ℕ) → checkOf store copy ≡ Refused k → refused (numberOf k) ≡ statusCall store copy i
+  unfolding statusCall
+  status-refused k i e = sym (ap (λ (o : Option ℕ). answerBy o (doing (sideIn store copy) (Status i) .0)) (check-refusal store copy k (Status i) e))
+
+  module _ (v : View) (F : Fitting store copy v) where
+    -- no line from 1 to 6 holds
+    call-open : (c : Call) → refusalOf store copy c ≡ firstOf (conditions (sideIn store copy) c)
+    unfolding refusalOf
+    call-open c =
+        let A = fitting-accepted store copy v F in
+        clear-first (storeConditions store) (copyConditions store copy ++ conditions (sideIn store copy) c) (clear (storeConditions store) (A .storeTaken))
+        ∙ clear-first (copyConditions store copy) (conditions (sideIn store copy) c) (clear (copyConditions store copy) (A .copyTaken))
+
+    module _ (i : ℕ) where
+      status-by : (a : Bool) → noSheet i ≡ a → answerBy (firstOf (7 when a ∷ [])) (status (statusOf (storeHistory store) i (entryIn copy i))) ≡ statusCall store copy i
+      unfolding statusCall
+      status-by a p =
+          sym
+          (ap (λ (o : Option ℕ). answerBy o (doing (sideIn store copy) (Status i) .0)) (call-open (Status i))
+          ∙ ap (λ (x : Bool). answerBy (firstOf (7 when x ∷ [])) (doing (sideIn store copy) (Status i) .0)) p)
+
+      pub status-beyond : 31 < i → refused 7 ≡ statusCall store copy i
+      status-beyond g = status-by true (lt-ltb 31 i g)
+
+      pub status-there : i ≤ 31 → (n : ℕ) → n ≡ statusOf (storeHistory store) i (entryIn copy i) → status n ≡ statusCall store copy i
+      status-there g n e = ap status e ∙ status-by false (le-ltb 31 i g)
+
+      abbrev there : Option Bytes → Place
+      there o = ownPlace o i (blockPlace store (blockUsed store (last (storeHistory store)) i))
+
+      show-by : (a b : Bool) (o : Option Bytes) → noSheet i ≡ a → ownBytes (entryIn copy i) ≡ o → not (present (shown o (newest (storeHistory store) i))) ≡ b
+          → placeBy (firstOf (7 when a ∷ 8 when b ∷ [])) (there o) ≡ showPlace store copy i
+      unfolding showPlace
+      show-by a b o p q r =
+          sym
+          (ap (λ (x : Option ℕ). placeBy x (there (ownBytes (entryIn copy i)))) (call-open (Show i))
+          ∙ ap₂ (λ (x : Bool) (y : Option Bytes). placeBy (firstOf (7 when x ∷ 8 when not (present (shown y (newest (storeHistory store) i))) ∷ [])) (there y)) p q
+          ∙ ap (λ (y : Bool). placeBy (firstOf (7 when a ∷ 8 when y ∷ [])) (there o)) r)
+
+      pub show-beyond : 31 < i → noPlace 7 ≡ showPlace store copy i
+      show-beyond g = show-by true _ _ (lt-ltb 31 i g) refl refl
+
+      module _ (g : i ≤ 31) where
+        pub show-own : (x : Bytes) → ownBytes (entryIn copy i) ≡ some x → inCopy (512 * (1 + i) + 16) (length x) ≡ showPlace store copy i
+        show-own x q = show-by false false (some x) (le-ltb 31 i g) q refl
+
+        module _ (q : ownBytes (entryIn copy i) ≡ none) (p : ℕ) (u : p ≡ blockUsed store (last (storeHistory store)) i) where
+          pub show-lacking : p ≡ 0 → noPlace 8 ≡ showPlace store copy i
+          show-lacking z =
+              show-by false true none (le-ltb 31 i g) q
+              (ap not (block-lacks store (v .n) (v .used) (F .viewed .opened .accepted) (last (storeHistory store)) i (omega arith) .0 (sym u ∙ z)))
+
+          pub show-there : (p ≡ 0 → ⊥) → (s : Span) → s ≡ spanOf store p → placeOf (InStore s) ≡ showPlace store copy i
+          show-there z s w =
+              ap (λ (y : Span). inStore (y .start) (y .len)) w ∙ ap (blockPlace store) u
+              ∙ show-by false false none (le-ltb 31 i g) q
+              (ap (λ o. not (present o)) (block-holds store (v .n) (v .used) (F .viewed .opened .accepted) (last (storeHistory store)) i (omega arith) (λ y. z (u ∙ y))))
