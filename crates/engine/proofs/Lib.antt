@@ -1,3 +1,4 @@
+-- The laws that the proofs of `engine` and of its callers cite, and demand 2.
 pub mod Fresh
 pub mod Refusing
 pub mod Looking

@@ -38,6 +38,7 @@ pub struct SheetsLog {
     pub source_revision: u32,
 }
 
+// The numbers of an answer.
 fn answer_numbers(answer: Answer) -> SheetsAnswer
     ensures { λ r. ⌜ r ≡ answerNumbers (answerOf answer) ⌝ }
 {
@@ -59,6 +60,7 @@ fn answer_numbers(answer: Answer) -> SheetsAnswer
     }
 }
 
+// The numbers of a place.
 fn part_numbers(place: Place) -> SheetsPart
     ensures { λ r. ⌜ r ≡ partNumbers (placeOf place) ⌝ }
 {
@@ -87,7 +89,7 @@ fn part_numbers(place: Place) -> SheetsPart
     }
 }
 
-// What log tells of a commit, with this action and source.
+// The numbers of what log tells.
 fn told(entry: LogEntry) -> SheetsLog
     ensures { λ r. ⌜ r ≡ logNumbers (answerOf (Logged entry)) ⌝ }
 {
@@ -139,6 +141,7 @@ fn untold(refusal: u32) -> SheetsLog
     }
 }
 
+// The numbers of an answer of log.
 fn log_numbers(answer: Answer) -> SheetsLog
     ensures { λ r. ⌜ r ≡ logNumbers (answerOf answer) ⌝ }
 {
