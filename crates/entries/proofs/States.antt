@@ -1,4 +1,4 @@
--- An entry that was read, state by state: it is the machine's entry in that state, with the bytes of its block.
+-- An entry that was read, state by state: it is the machine's entry in that state, with the bytes of its block; and whether it is pending, out of date, and its status.
 -- Assumes nothing.
 use Prim.Native.Nat.{_*_, _+_, _≤_, ℕ}
 use mathlib.Core.Bool.{Bool, cond, false, not, true}
@@ -9,7 +9,7 @@ use lib.ListN.{drop, length, take}
 use Rattle.block.specs.Buffer.{blockAt}
 use Rattle.model.specs.Entry.{Entry, modified, ownBytes, pending}
 use Rattle.model.specs.Fitting.{FitsEntry, FitsRows}
-use Rattle.model.specs.History.{Bytes, History, change, isBytes, namedAfter, names, newest, nothing, present, sheet}
+use Rattle.model.specs.History.{Bytes, History, change, isBytes, last, namedAfter, names, newest, nothing, present, sheet}
 use Rattle.model.specs.Machine.{statusOf}
 use Rattle.model.specs.Refusals.{outOfDate}
 use Rattle.model.specs.Store.{storeHistory}
@@ -53,13 +53,20 @@ module _ (store copy : Bytes) (v : View) (f : Fitting store copy v) where
       let p = d .copy-accepted .0 (fitting-accepted store copy v f .copyTaken) in
       subst (FitsRows (storeHistory store)) (sym (d .copy-read (p .0) (p .1) (p .2) .1)) (p .3)
 
-  -- the base of a normal or deleted entry is at most the last revision
-  module _ {i b : ℕ} {e : TheEntry} (r : Reading copy i e) where
-    pub normal-base : e .state ≡ Normal b → b ≤ v .last
-    normal-base q = omega (arith, f .viewed .opened .last, subst (FitsEntry (storeHistory store) i) (as-read r q) (fitting-rows i) .0)
+  within : {b : ℕ} → b ≤ last (storeHistory store) → b ≤ v .last
+  within h = omega (arith, f .viewed .opened .last)
 
-    pub deleted-base : e .state ≡ Deleted b → b ≤ v .last
-    deleted-base q = omega (arith, f .viewed .opened .last, subst (FitsEntry (storeHistory store) i) (as-read r q) (fitting-rows i) .0)
+  module _ {i : ℕ} {e : TheEntry} (r : Reading copy i e) where
+    -- its base or its source is there
+    pub fits-read : {s : State} → e .state ≡ s → FitsEntry (storeHistory store) i (entryAs s (bytesIn e (blockAt copy (i + 1))))
+    fits-read q = subst (FitsEntry (storeHistory store) i) (as-read r q) (fitting-rows i)
+
+    -- so that the base is at most the last revision
+    pub normal-base : {b : ℕ} → e .state ≡ Normal b → b ≤ v .last
+    normal-base q = within (fits-read q .0)
+
+    pub deleted-base : {b : ℕ} → e .state ≡ Deleted b → b ≤ v .last
+    deleted-base q = within (fits-read q .0)
 
 -- an empty entry, beside the answer t whether the last tree has its sheet
 pub status-empty : (h : History) {copy : Bytes} {i : ℕ} {e : TheEntry} {t z : Bool} → Reading copy i e → e .state ≡ Empty → t ≡ present (newest h i) → t ≡ z

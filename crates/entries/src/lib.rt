@@ -144,7 +144,8 @@ fn named_since(store: &[u8], v: View, b: usize, i: usize) -> bool
     requires { ⌜ Opened (now store) v × (i < 32) ⌝ }
     ensures { λ x. ⌜ x ≡ namedAfter (storeHistory (now (store .entry))) b i ⌝ }
 {
-    let f = search::look_up(store, v.n, v.used, v.last, i);
+    let last = v.last;
+    let f = search::look_up(store, v.n, v.used, last, i);
     b < f.revision
 }
 
