@@ -1,34 +1,24 @@
 -- A call that takes both buffers, after `entries::check`: refused as the check says, or done as the inner function does it.
 -- Assumes nothing.
 use Prim.Native.Nat.{ℕ}
-use mathlib.Core.Bool.{Bool, cond, false, true}
-use mathlib.Core.List.{List, [], _++_, _∷_, append-assoc}
+use mathlib.Core.List.{_++_, append-assoc}
 use mathlib.Core.Option.{Option, some}
 use mathlib.Core.Path.{_∙_, _≡_, ap, sym}
-use native.Mathlib.Omega.{arith}
 use Rattle.model.specs.Calls.{changeBy, changeCall, copyConditions, out, refusalOf, sideIn, storeConditions}
 use Rattle.model.specs.History.{Bytes}
 use Rattle.model.specs.Machine.{Call, refused}
-use Rattle.model.specs.Refusals.{Condition, conditions, firstOf}
+use Rattle.model.specs.Refusals.{conditions, firstOf}
 use Rattle.model.specs.Types.{answerOf, numberOf}
-use Rattle.laws.proofs.Conditions.{clear}
-use Rattle.entries.proofs.Checking.{check-ready, check-refused, fitting-accepted}
-use Rattle.entries.specs.View.{checkOf}
-use Rattle.local.proofs.Calls.{Local, local-call}
-use Rattle.local.specs.Local.{LocalOut, localOut}
-use Rattle.entries.specs.declared.Checked.the-variants.{Ready, Refused}
-use Rattle.entries.specs.declared.View.{View}
 use Rattle.model.specs.declared.Answer.{Answer}
 use Rattle.model.specs.declared.Refusal.{Refusal}
-
--- the first condition that holds stays so whatever follows
-first-stays : (cs ds : List Condition) (n : ℕ) → firstOf cs ≡ some n → firstOf (cs ++ ds) ≡ some n
-first-stays [] ds n e = let z : _≡_ {A = ℕ} 0 1 = cc in absurd (omega arith)
-first-stays (c ∷ cs) ds n e = go (c .holds) e (first-stays cs ds n)
-  where
-    go : (b : Bool) → cond b (some (c .number)) (firstOf cs) ≡ some n → (firstOf cs ≡ some n → firstOf (cs ++ ds) ≡ some n) → cond b (some (c .number)) (firstOf (cs ++ ds)) ≡ some n
-    go true q r = q
-    go false q r = r q
+use Rattle.laws.proofs.Conditions.{clear}
+use Rattle.engine.proofs.Refusing.{first-stays}
+use Rattle.entries.proofs.Checking.{check-ready, check-refused, fitting-accepted}
+use Rattle.entries.specs.View.{checkOf}
+use Rattle.entries.specs.declared.Checked.the-variants.{Ready, Refused}
+use Rattle.entries.specs.declared.View.{View}
+use Rattle.local.proofs.Calls.{Local, local-call}
+use Rattle.local.specs.Local.{LocalOut, localOut}
 
 module _ (store copy : Bytes) where
   pub check-refusal : (k : Refusal) (c : Call) → checkOf store copy ≡ Refused k → refusalOf store copy c ≡ some (numberOf k)

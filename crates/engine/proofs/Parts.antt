@@ -14,7 +14,7 @@ use Rattle.model.specs.Types.{placeOf}
 use Rattle.model.specs.declared.Place.the-variants.{InCopy, InStore, Refused}
 use Rattle.model.specs.declared.Refusal.{Refusal}
 use Rattle.model.specs.declared.Span.{Span}
-use Rattle.engine.specs.Place.{PartAt}
+use Rattle.engine.specs.Place.{PartAt, ShownAt}
 
 -- `&s[a..a + len]`
 part-is : (s : RefT (List ℕ)) (a len γ : ℕ) → PartAt s (slPart s (byByte a (s .ptr .1)) a (a + len) γ) (a, len)
@@ -33,3 +33,14 @@ module _ (s : RefT (List ℕ)) (γ : ℕ) {q : Place} where
       let start : 0 ≡ p .start = omega arith in
       let len : 0 ≡ p .len = omega arith in
       subst (λ (x : Place). PartAt s (slPart s (byByte 0 (s .ptr .1)) 0 0 γ) (partOf x)) (ap₂ inCopy start len ∙ e) (part-is s 0 0 γ)
+
+-- the part that show hands back, of the store or of the working copy
+module _ (s c : RefT (List ℕ)) (γ : ℕ) {q : Place} where
+  pub shown-refused : (k : Refusal) → placeOf (Refused k) ≡ q → ShownAt s c (slPart s (byByte 0 (s .ptr .1)) 0 0 γ) q
+  shown-refused k e = subst (λ (x : Place). ShownAt s c (slPart s (byByte 0 (s .ptr .1)) 0 0 γ) x) e (part-is s 0 0 γ)
+
+  pub shown-there : (p : Span) → placeOf (InStore p) ≡ q → ShownAt s c (slPart s (byByte (p .start) (s .ptr .1)) (p .start) (p .start + p .len) γ) q
+  shown-there p e = subst (λ (x : Place). ShownAt s c (slPart s (byByte (p .start) (s .ptr .1)) (p .start) (p .start + p .len) γ) x) e (part-is s (p .start) (p .len) γ)
+
+  pub shown-own : (p : Span) → placeOf (InCopy p) ≡ q → ShownAt s c (slPart c (byByte (p .start) (c .ptr .1)) (p .start) (p .start + p .len) γ) q
+  shown-own p e = subst (λ (x : Place). ShownAt s c (slPart c (byByte (p .start) (c .ptr .1)) (p .start) (p .start + p .len) γ) x) e (part-is c (p .start) (p .len) γ)

@@ -13,22 +13,23 @@ use Rattle.model.specs.Entry.{ownBytes}
 use Rattle.model.specs.History.{Bytes, last, newest, present}
 use Rattle.model.specs.Machine.{Call, Show, Status, doing, entry, refused, shown, status, statusOf}
 use Rattle.model.specs.Refusals.{_when_, conditions, firstOf, noSheet}
-use Rattle.model.specs.Store.{blockUsed, storeHistory}
+use Rattle.model.specs.Store.{blockCount, blockUsed, storeHistory}
 use Rattle.model.specs.Types.{entryAs, numberOf, placeOf}
-use Rattle.laws.proofs.Conditions.{clear, clear-first}
-use Rattle.engine.proofs.Changing.{check-refusal}
-use Rattle.engine.specs.Place.{hasOwn}
-use Rattle.entries.proofs.Checking.{fitting-accepted}
-use Rattle.entries.specs.View.{Fitting, checkOf}
-use Rattle.search.proofs.Finding.{block-holds, block-lacks}
-use Rattle.search.specs.Find.{spanOf}
-use Rattle.entries.specs.declared.Checked.the-variants.{Refused}
-use Rattle.entries.specs.declared.View.{View}
 use Rattle.model.specs.declared.Place.the-variants.{InStore}
 use Rattle.model.specs.declared.Refusal.{Refusal}
 use Rattle.model.specs.declared.Span.{Span}
 use Rattle.model.specs.declared.State.{State}
 use Rattle.model.specs.declared.State.the-variants.{Added, Copied, Deleted, Empty, Normal}
+use Rattle.laws.proofs.Conditions.{clear, clear-first}
+use Rattle.engine.proofs.Changing.{check-refusal}
+use Rattle.engine.specs.Place.{hasOwn}
+use Rattle.entries.proofs.Checking.{fitting-accepted}
+use Rattle.entries.specs.View.{Fitting, checkOf, entryIn}
+use Rattle.entries.specs.declared.Checked.the-variants.{Refused}
+use Rattle.entries.specs.declared.View.{View}
+use Rattle.search.proofs.Finding.{block-holds, block-inside, block-lacks}
+use Rattle.search.specs.Find.{foundIn, spanOf}
+use Rattle.search.specs.declared.Found.{Found}
 
 -- the bytes of an entry in this state
 pub own-some : (s : State) (b : Bytes) → hasOwn s ≡ true → ownBytes (entryAs s b) ≡ some b
@@ -63,6 +64,16 @@ module _ (store copy : Bytes) where
         let A = fitting-accepted store copy v F in
         clear-first (storeConditions store) (copyConditions store copy ++ conditions (sideIn store copy) c) (clear (storeConditions store) (A .storeTaken))
         ∙ clear-first (copyConditions store copy) (conditions (sideIn store copy) c) (clear (copyConditions store copy) (A .copyTaken))
+
+    -- the block that the sheet uses in the last tree, as it was found
+    pub newest-block : (i : ℕ) {f : Found} → f ≡ foundIn store (v .last) i → f .block ≡ blockUsed store (last (storeHistory store)) i
+    newest-block i e = ap (λ (x : Found). x .block) e ∙ ap (λ (n : ℕ). blockUsed store n i) (F .viewed .opened .last)
+
+    pub newest-inside : (i : ℕ) {f : Found} → f ≡ foundIn store (v .last) i → f .block < blockCount store
+    newest-inside i e =
+        let u = newest-block i e in
+        let w = block-inside store (v .n) (v .used) (F .viewed .opened .accepted) (last (storeHistory store)) i .0 in
+        omega (arith, u, w)
 
     module _ (i : ℕ) where
       status-by : (a : Bool) → noSheet i ≡ a → answerBy (firstOf (7 when a ∷ [])) (status (statusOf (storeHistory store) i (entryIn copy i))) ≡ statusCall store copy i

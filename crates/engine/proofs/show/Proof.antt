@@ -1,81 +1,74 @@
+-- `engine::show` meets its contract: the part at the place that its companion answers.
+-- Assumes nothing.
+use mathlib.Core.Path.{_∙_, ap, subst, sym}
+use native.Mathlib.Omega.{arith}
+use Rattle.model.specs.Types.{placeOf}
+use Rattle.engine.proofs.Parts.{shown-own, shown-refused, shown-there}
+use Rattle.engine.specs.Place.{Inside}
 use borrow.Author.Needs.{needs}
 use Rattle.engine.proofs.show.Statement.{statement}
 use Rattle.engine.proofs.show.Tie as tie
-use Rattle.engine.proofs.show.Reads as reads
-use Rattle.engine.proofs.show.Lts as lts
-use Rattle.engine.proofs.show_place.Reads as show-place-reads
 
--- src/lib.rt:194:9
 show-place-requires : tie.Need-show-place-requires
 show-place-requires c κs = search needs
 
--- src/lib.rt:196:30
 enum-told : tie.Need-enum-told
 enum-told c = search needs
 
--- src/lib.rt:196:30
 sub-result : tie.Need-sub-result
 sub-result c = search needs
 
--- src/lib.rt:196:30
 part-result-start : tie.Need-part-result-start
 part-result-start c = search needs
 
--- src/lib.rt:196:30
 part-result-end : tie.Need-part-result-end
 part-result-end c = search needs
 
--- src/lib.rt:197:24
 enum-known-place : tie.Need-enum-known-place
 enum-known-place c = search needs
 
--- src/lib.rt:199:21
 add-e : tie.Need-add-e
-add-e c = ?
+add-e c =
+    omega (arith, subst (Inside (c .before .before .before .before .before .before .before .args .store .now) (c .before .before .before .before .before .before .before .args .copy .now)) (c .before .before .place .given .1) (c .before .before .before .before .show-place .ensures .inside))
 
--- src/lib.rt:200:13
 sub-result-2 : tie.Need-sub-result-2
 sub-result-2 c = search needs
 
--- src/lib.rt:200:13
 part-result-start-2 : tie.Need-part-result-start-2
 part-result-start-2 c = search needs
 
--- src/lib.rt:200:13
 part-result-end-2 : tie.Need-part-result-end-2
-part-result-end-2 c = ?
+part-result-end-2 c =
+    omega (arith, subst (Inside (c .before .before .before .before .before .before .before .args .store .now) (c .before .before .before .before .before .before .before .args .copy .now)) (c .before .before .place .given .1) (c .before .before .before .before .show-place .ensures .inside))
 
--- src/lib.rt:202:23
 enum-known-place-2 : tie.Need-enum-known-place-2
 enum-known-place-2 c = search needs
 
--- src/lib.rt:204:21
 add-e-2 : tie.Need-add-e-2
-add-e-2 c = ?
+add-e-2 c =
+    omega (arith, subst (Inside (c .before .before .before .before .before .before .before .args .store .now) (c .before .before .before .before .before .before .before .args .copy .now)) (c .before .before .place2 .given .1) (c .before .before .before .before .show-place .ensures .inside))
 
--- src/lib.rt:205:13
 sub-result-3 : tie.Need-sub-result-3
 sub-result-3 c = search needs
 
--- src/lib.rt:205:13
 part-result-start-3 : tie.Need-part-result-start-3
 part-result-start-3 c = search needs
 
--- src/lib.rt:205:13
 part-result-end-3 : tie.Need-part-result-end-3
-part-result-end-3 c = ?
+part-result-end-3 c =
+    omega (arith, subst (Inside (c .before .before .before .before .before .before .before .args .store .now) (c .before .before .before .before .before .before .before .args .copy .now)) (c .before .before .place2 .given .1) (c .before .before .before .before .show-place .ensures .inside))
 
--- src/lib.rt:191:1
 returns : tie.Need-returns
-returns c = ?
+returns c =
+    shown-refused (c .before .before .before .before .before .before .args .store) (c .before .before .before .before .before .before .args .copy) (c .result .given .0) (c .before .enum-told .given .0 .0) (sym (ap placeOf (c .before .enum-told .given .1)) ∙ c .before .before .before .show-place .ensures .is)
 
--- src/lib.rt:191:1
 returns-2 : tie.Need-returns-2
-returns-2 c = ?
+returns-2 c =
+    shown-there (c .before .before .before .before .before .before .before .before .args .store) (c .before .before .before .before .before .before .before .before .args .copy) (c .result2 .given .0) (c .before .before .before .place .given .0 .0) (sym (ap placeOf (c .before .before .before .place .given .1)) ∙ c .before .before .before .before .before .show-place .ensures .is)
 
--- src/lib.rt:191:1
 returns-3 : tie.Need-returns-3
-returns-3 c = ?
+returns-3 c =
+    shown-own (c .before .before .before .before .before .before .before .before .args .store) (c .before .before .before .before .before .before .before .before .args .copy) (c .result3 .given .0) (c .before .before .before .place2 .given .0 .0) (sym (ap placeOf (c .before .before .before .place2 .given .1)) ∙ c .before .before .before .before .before .show-place .ensures .is)
 
 pub show-spec : {M : Type 1} → statement M
 show-spec =

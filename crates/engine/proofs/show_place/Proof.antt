@@ -1,32 +1,31 @@
+-- `engine::show_place` meets its contract: refused as the check says, or the place on buffers that fit.
+-- Assumes nothing.
+use mathlib.Core.Path.{_∙_, sym}
+use Rattle.entries.proofs.Checking.{check-ready}
+use Rattle.engine.proofs.Showing.{show-refused}
 use borrow.Author.Needs.{needs}
 use Rattle.engine.proofs.show_place.Statement.{statement}
 use Rattle.engine.proofs.show_place.Tie as tie
-use Rattle.engine.proofs.show_place.Reads as reads
-use Rattle.engine.proofs.show_place.Lts as lts
-use Rattle.engine.proofs.shown_in.Reads as shown-in-reads
-use Rattle.entries.proofs.check.Reads as check-reads
 
--- src/lib.rt:183:9
 check-requires : tie.Need-check-requires
 check-requires c κs = search needs
 
--- src/lib.rt:185:26
 enum-known-c : tie.Need-enum-known-c
 enum-known-c c = search needs
 
--- src/lib.rt:186:24
 enum-known-c-2 : tie.Need-enum-known-c-2
 enum-known-c-2 c = search needs
 
--- src/lib.rt:186:30
 shown-in-requires : tie.Need-shown-in-requires
-shown-in-requires c κs = ?
+shown-in-requires c κs =
+    let a = c .before .before .before .before .before .before .args in
+    check-ready (a .store .now) (a .copy .now) (c .before .c2 .given .0 .0) (sym (c .before .before .before .check .ensures) ∙ c .before .c2 .given .1)
 
--- src/lib.rt:180:1
 returns : tie.Need-returns
-returns c = ?
+returns c =
+    let a = c .before .before .before .before .before .before .args in
+    record { is = show-refused (a .store .now) (a .copy .now) (c .before .c .given .0 .0) (a .sheet) (sym (c .before .before .before .check .ensures) ∙ c .before .c .given .1); inside = tt }
 
--- src/lib.rt:180:1
 returns-2 : tie.Need-returns-2
 returns-2 c = search needs
 

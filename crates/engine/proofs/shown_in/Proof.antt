@@ -1,56 +1,86 @@
+-- `engine::shown_in` meets its contract: one way through at a time.
+-- Assumes nothing.
+use Prim.Native.Nat.{_*_, _+_}
+use mathlib.Core.Path.{_∙_, ap, sym}
+use native.Mathlib.Omega.{arith}
+use Rattle.block.specs.Buffer.{blockAt}
+use Rattle.model.specs.Calls.{inCopy}
+use Rattle.model.specs.Entry.{ownBytes}
+use Rattle.workcopy.specs.Copy.{bytesIn}
+use Rattle.engine.proofs.Showing.{newest-block, newest-inside, own-none, own-some, show-beyond, show-lacking, show-own, show-there}
 use borrow.Author.Needs.{needs}
 use Rattle.engine.proofs.shown_in.Statement.{statement}
 use Rattle.engine.proofs.shown_in.Tie as tie
-use Rattle.engine.proofs.shown_in.Reads as reads
-use Rattle.engine.proofs.shown_in.Lts as lts
-use Rattle.engine.proofs.own_bytes.Reads as own-bytes-reads
-use Rattle.search.proofs.look_up.Reads as look-up-reads
-use Rattle.search.proofs.span_at.Reads as span-at-reads
-use Rattle.workcopy.proofs.entry_at.Reads as entry-at-reads
 
--- src/lib.rt:162:9
 returns : tie.Need-returns
-returns c = ?
+returns c =
+    let a = c .before .before .before .args in
+    record { is = show-beyond (a .store .now) (a .copy .now) (a .v) (c .before .before .before .pre) (a .sheet) (c .if1 .taken); inside = tt }
 
--- src/lib.rt:165:9
 entry-at-requires : tie.Need-entry-at-requires
 entry-at-requires c κs = search needs
 
--- src/lib.rt:167:8
 own-bytes-requires : tie.Need-own-bytes-requires
 own-bytes-requires c κs = search needs
 
--- src/lib.rt:168:28
 add-start : tie.Need-add-start
 add-start c = search needs
 
--- src/lib.rt:168:21
 mul-start : tie.Need-mul-start
 mul-start c = search needs
 
--- src/lib.rt:168:21
 add-start-2 : tie.Need-add-start-2
 add-start-2 c = search needs
 
--- src/lib.rt:170:9
 returns-2 : tie.Need-returns-2
-returns-2 c = ?
+returns-2 c =
+    let a = c .before .before .before .before .before .before .args in
+    let P = c .before .before .before .before .before .before .pre in
+    let low = c .before .before .before .if1 .left in
+    let e = c .before .before .entry-at .result in
+    let R = c .before .before .entry-at .ensures in
+    let x = bytesIn e (blockAt (a .copy .now) (a .sheet + 1)) in
+    let q = ap ownBytes (sym (R .means)) ∙ own-some (e .state) x (sym (c .before .own-bytes .ensures) ∙ c .if2 .taken) in
+    let size = P .viewed .accepted .size in
+    let short = R .short in
+    record {
+      is = ap (inCopy (512 * (1 + a .sheet) + 16)) (sym (R .whole)) ∙ show-own (a .store .now) (a .copy .now) (a .v) P (a .sheet) low x q;
+      inside = omega arith;
+    }
 
--- src/lib.rt:172:9
 look-up-requires : tie.Need-look-up-requires
 look-up-requires c κs = search needs
 
--- src/lib.rt:174:9
 returns-3 : tie.Need-returns-3
-returns-3 c = ?
+returns-3 c =
+    let a = c .before .before .before .before .before .before .before .before .before .args in
+    let P = c .before .before .before .before .before .before .before .before .before .pre in
+    let low = c .before .before .before .before .before .before .if1 .left in
+    let e = c .before .before .before .before .before .entry-at .result in
+    let R = c .before .before .before .before .before .entry-at .ensures in
+    let x = bytesIn e (blockAt (a .copy .now) (a .sheet + 1)) in
+    let q = ap ownBytes (sym (R .means)) ∙ own-none (e .state) x (sym (c .before .before .before .before .own-bytes .ensures) ∙ c .before .before .before .if2 .left) in
+    let u = newest-block (a .store .now) (a .copy .now) (a .v) P (a .sheet) (c .before .before .look-up .ensures) in
+    record { is = show-lacking (a .store .now) (a .copy .now) (a .v) P (a .sheet) low q _ u (c .if3 .taken); inside = tt }
 
--- src/lib.rt:176:20
 span-at-requires : tie.Need-span-at-requires
-span-at-requires c κs = ?
+span-at-requires c κs =
+    let a = c .before .before .before .before .before .before .before .before .before .args in
+    let P = c .before .before .before .before .before .before .before .before .before .pre in
+    newest-inside (a .store .now) (a .copy .now) (a .v) P (a .sheet) (c .before .before .look-up .ensures)
 
--- src/lib.rt:157:1
 returns-4 : tie.Need-returns-4
-returns-4 c = ?
+returns-4 c =
+    let a = c .before .before .before .before .before .before .before .before .before .before .args in
+    let P = c .before .before .before .before .before .before .before .before .before .before .pre in
+    let low = c .before .before .before .before .before .before .before .if1 .left in
+    let e = c .before .before .before .before .before .before .entry-at .result in
+    let R = c .before .before .before .before .before .before .entry-at .ensures in
+    let x = bytesIn e (blockAt (a .copy .now) (a .sheet + 1)) in
+    let q = ap ownBytes (sym (R .means)) ∙ own-none (e .state) x (sym (c .before .before .before .before .before .own-bytes .ensures) ∙ c .before .before .before .before .if2 .left) in
+    let u = newest-block (a .store .now) (a .copy .now) (a .v) P (a .sheet) (c .before .before .before .look-up .ensures) in
+    let S = c .span-at .ensures in
+    record { is = show-there (a .store .now) (a .copy .now) (a .v) P (a .sheet) low q _ u (c .before .if3 .left) (c .span-at .result) (S .is); inside = S .inside }
 
 pub shown-in-spec : {M : Type 1} → statement M
 shown-in-spec =

@@ -1,32 +1,31 @@
+-- `engine::status` meets its contract: refused as the check says, or the status on buffers that fit.
+-- Assumes nothing.
+use mathlib.Core.Path.{_∙_, sym}
+use Rattle.entries.proofs.Checking.{check-ready}
+use Rattle.engine.proofs.Showing.{status-refused}
 use borrow.Author.Needs.{needs}
 use Rattle.engine.proofs.status.Statement.{statement}
 use Rattle.engine.proofs.status.Tie as tie
-use Rattle.engine.proofs.status.Reads as reads
-use Rattle.engine.proofs.status.Lts as lts
-use Rattle.engine.proofs.status_in.Reads as status-in-reads
-use Rattle.entries.proofs.check.Reads as check-reads
 
--- src/lib.rt:225:9
 check-requires : tie.Need-check-requires
 check-requires c κs = search needs
 
--- src/lib.rt:227:26
 enum-known-c : tie.Need-enum-known-c
 enum-known-c c = search needs
 
--- src/lib.rt:228:24
 enum-known-c-2 : tie.Need-enum-known-c-2
 enum-known-c-2 c = search needs
 
--- src/lib.rt:228:30
 status-in-requires : tie.Need-status-in-requires
-status-in-requires c κs = ?
+status-in-requires c κs =
+    let a = c .before .before .before .before .before .before .args in
+    check-ready (a .store .now) (a .copy .now) (c .before .c2 .given .0 .0) (sym (c .before .before .before .check .ensures) ∙ c .before .c2 .given .1)
 
--- src/lib.rt:222:1
 returns : tie.Need-returns
-returns c = ?
+returns c =
+    let a = c .before .before .before .before .before .before .args in
+    status-refused (a .store .now) (a .copy .now) (c .before .c .given .0 .0) (a .sheet) (sym (c .before .before .before .check .ensures) ∙ c .before .c .given .1)
 
--- src/lib.rt:222:1
 returns-2 : tie.Need-returns-2
 returns-2 c = search needs
 
