@@ -1,7 +1,7 @@
 -- The structs of src/lib.rt, from the answers and places of the meanings: a refusal's number, or 0 and the call's numbers. What a struct has no case for is zero.
 -- Assumes nothing.
 use Prim.Native.Nat.{ℕ}
-use Rattle.model.specs.Calls.{Created, Place, inCopy, inStore, noPlace}
+use Rattle.model.specs.Calls.{Out, Created, Place, inCopy, inStore, noPlace}
 use Rattle.model.specs.History.{Bytes}
 use Rattle.model.specs.Machine.{Answer, bytes, done, logged, refused, revision, status}
 use Rattle.sheetstore.specs.declared.SheetsAnswer.{SheetsAnswer}
@@ -19,7 +19,7 @@ answerNumbers (bytes x) = valued 0 0
 answerNumbers (status n) = valued 0 n
 answerNumbers (logged seat stamp m a s R) = valued 0 0
 
--- an answer of create, beside the buffer that it makes
+-- an answer beside the buffer that the call leaves
 pub record Left : Type 0 where
   pub numbers : SheetsAnswer
   pub buffer : Bytes
@@ -29,6 +29,10 @@ left r b = record { numbers = r; buffer = b }
 
 abbrev pub leftNumbers : Created → Left
 leftNumbers c = left (answerNumbers (c .says)) (c .buffer)
+
+-- an answer beside the working copy that a call leaves; the store is lent for reading
+abbrev pub copyNumbers : Out → Left
+copyNumbers o = left (answerNumbers (o .says)) (o .copy)
 
 -- buffer 0 is the store, 1 the working copy
 abbrev pub partNumbers : Place → SheetsPart

@@ -5,10 +5,10 @@ use model::Answer;
 use model::LogEntry;
 use model::Place;
 ghost use mathlib.Core.Path.{_≡_};
-ghost use Rattle.model.specs.Calls.{createCopy, createStore, logCall, readPlace};
+ghost use Rattle.model.specs.Calls.{addCall, copyCall, createCopy, createStore, deleteCall, editCall, logCall, moveCall, readPlace, showPlace, statusCall};
 ghost use Rattle.model.specs.Types.{answerOf, placeOf};
 ghost use Rattle.model.specs.declared.Answer.the-variants.{Logged};
-ghost use Rattle.sheetstore.specs.Numbers.{answerNumbers, left, leftNumbers, logNumbers, noLog, partNumbers};
+ghost use Rattle.sheetstore.specs.Numbers.{answerNumbers, copyNumbers, left, leftNumbers, logNumbers, noLog, partNumbers};
 
 // A refusal's number, or 0 and the revision or status, if the call answers one.
 #[repr(C)]
@@ -184,4 +184,70 @@ pub extern "C" fn sheets_log(store: &[u8], revision: u32, sheet: u32) -> SheetsL
     ensures { λ r. ⌜ r ≡ logNumbers (logCall (now (store .entry)) revision sheet) ⌝ }
 {
     log_numbers(engine::log(store, revision, sheet))
+}
+
+// The empty entry of a sheet becomes added, with these bytes.
+#[no_mangle]
+pub extern "C" fn sheets_add(
+    store: &[u8],
+    copy: &mut [u8],
+    sheet: u32,
+    bytes: &[u8],
+) -> SheetsAnswer
+    ensures { λ r. ⌜ left r (now (copy .exit)) ≡ copyNumbers (addCall (now (store .entry)) (now (copy .entry)) sheet (now (bytes .entry))) ⌝ }
+{
+    answer_numbers(engine::add(store, copy, sheet, bytes))
+}
+
+// Other bytes in a normal, added or copied entry.
+#[no_mangle]
+pub extern "C" fn sheets_edit(
+    store: &[u8],
+    copy: &mut [u8],
+    sheet: u32,
+    bytes: &[u8],
+) -> SheetsAnswer
+    ensures { λ r. ⌜ left r (now (copy .exit)) ≡ copyNumbers (editCall (now (store .entry)) (now (copy .entry)) sheet (now (bytes .entry))) ⌝ }
+{
+    answer_numbers(engine::edit(store, copy, sheet, bytes))
+}
+
+// A normal entry becomes deleted, an added or copied one empty.
+#[no_mangle]
+pub extern "C" fn sheets_delete(store: &[u8], copy: &mut [u8], sheet: u32) -> SheetsAnswer
+    ensures { λ r. ⌜ left r (now (copy .exit)) ≡ copyNumbers (deleteCall (now (store .entry)) (now (copy .entry)) sheet) ⌝ }
+{
+    answer_numbers(engine::delete(store, copy, sheet))
+}
+
+// The empty entry of sheet `to` becomes a copy of that of sheet `from`.
+#[no_mangle]
+pub extern "C" fn sheets_copy(store: &[u8], copy: &mut [u8], from: u32, to: u32) -> SheetsAnswer
+    ensures { λ r. ⌜ left r (now (copy .exit)) ≡ copyNumbers (copyCall (now (store .entry)) (now (copy .entry)) from to) ⌝ }
+{
+    answer_numbers(engine::copy_sheet(store, copy, from, to))
+}
+
+// Copy, then delete of sheet `from`.
+#[no_mangle]
+pub extern "C" fn sheets_move(store: &[u8], copy: &mut [u8], from: u32, to: u32) -> SheetsAnswer
+    ensures { λ r. ⌜ left r (now (copy .exit)) ≡ copyNumbers (moveCall (now (store .entry)) (now (copy .entry)) from to) ⌝ }
+{
+    answer_numbers(engine::move_sheet(store, copy, from, to))
+}
+
+// Where the bytes that a seat sees of a sheet stand: its own in the working copy, else the last revision's in the store.
+#[no_mangle]
+pub extern "C" fn sheets_show<'a>(store: &'a [u8], copy: &'a [u8], sheet: u32) -> SheetsPart
+    ensures { λ r. ⌜ r ≡ partNumbers (showPlace (now (store .entry)) (now (copy .entry)) sheet) ⌝ }
+{
+    part_numbers(engine::show_place(store, copy, sheet))
+}
+
+// The status of a sheet's entry.
+#[no_mangle]
+pub extern "C" fn sheets_status<'a>(store: &'a [u8], copy: &'a [u8], sheet: u32) -> SheetsAnswer
+    ensures { λ r. ⌜ r ≡ answerNumbers (statusCall (now (store .entry)) (now (copy .entry)) sheet) ⌝ }
+{
+    answer_numbers(engine::status(store, copy, sheet))
 }
