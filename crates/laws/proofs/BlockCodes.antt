@@ -28,7 +28,7 @@ lines-back (l ∷ ls) z =
       revision = two-back (l .revision) i;
     } ∷ lines-back ls z i
 
-length-lines : (ls : List Line) → length (linesOf ls) ≡ 8 * length ls
+pub length-lines : (ls : List Line) → length (linesOf ls) ≡ 8 * length ls
 length-lines [] = refl
 length-lines (l ∷ ls) = omega (arith, length-lines ls)
 

@@ -39,7 +39,7 @@ ends-below look at k tables (commit r seat stamp ls ∷ front) bl low below t n 
     (grown-below look look (at + k) (λ p h. refl) at k tables low (omega arith) below seat ls (q .0)) (q .1) n)
 ends-below look at k tables (blank ∷ front) bl low below t n = absurd n
 
-length-contents : (cs : List Change) (ps : List Plan) → length ps ≡ length cs → length (contentsFor cs ps) ≡ freshes ps
+pub length-contents : (cs : List Change) (ps : List Plan) → length ps ≡ length cs → length (contentsFor cs ps) ≡ freshes ps
 length-contents [] [] e = refl
 length-contents [] (q ∷ ps) e = absurd (omega arith)
 length-contents (c ∷ cs) [] e = absurd (omega arith)

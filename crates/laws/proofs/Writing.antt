@@ -152,6 +152,23 @@ total-low (change x ∷ cs) = omega (arith, total-low cs)
 total-low (delete ∷ cs) = omega (arith, total-low cs)
 total-low (copy s r x ∷ cs) = omega (arith, total-low cs)
 
+-- each copy has a source that is there
+abbrev pub Sources : History → List Change → Type 0
+Sources h [] = Unit {0}
+Sources h (nothing ∷ cs) = Sources h cs
+Sources h (add x ∷ cs) = Sources h cs
+Sources h (change x ∷ cs) = Sources h cs
+Sources h (delete ∷ cs) = Sources h cs
+Sources h (copy s v x ∷ cs) = Base h v s × Sources h cs
+
+right-sources : (h : History) (i : ℕ) (cs : List Change) → RightFrom h i cs → Sources h cs
+right-sources h i [] r = tt
+right-sources h i (nothing ∷ cs) r = right-sources h (suc i) cs (r .1)
+right-sources h i (add x ∷ cs) r = right-sources h (suc i) cs (r .1)
+right-sources h i (change x ∷ cs) r = right-sources h (suc i) cs (r .1)
+right-sources h i (delete ∷ cs) r = right-sources h (suc i) cs (r .1)
+right-sources h i (copy s v x ∷ cs) r = (r .0 .2, right-sources h (suc i) cs (r .1))
+
 fits-contents : (r : ℕ) (bs : List (List ℕ)) → r < 65_536 → All Short bs → All FitsBlock (map (content r) bs)
 fits-contents r [] h a = tt
 fits-contents r (b ∷ bs) h a = ((h, a .0 .size, a .0 .bytes), fits-contents r bs h (a .1))
@@ -163,7 +180,7 @@ module _ (look : ℕ → List ℕ) (at : ℕ) (tables : List Table) (h : History
     abbrev plan : Change → Plan
     plan = planOf look at 0 tables
 
-    line-count : (cs : List Change) (i p : ℕ) → length (linesFor i p (map plan cs)) ≡ total count cs
+    pub line-count : (cs : List Change) (i p : ℕ) → length (linesFor i p (map plan cs)) ≡ total count cs
     line-count [] i p = refl
     line-count (nothing ∷ cs) i p = line-count cs (suc i) p ∙ sym (zero-add (total count cs))
     line-count (add x ∷ cs) i p = omega (arith, line-count cs (suc i) (suc p))
@@ -177,15 +194,15 @@ module _ (look : ℕ → List ℕ) (at : ℕ) (tables : List Table) (h : History
         go false e f = omega arith
 
     -- k, as the machine counts it
-    content-count : (cs : List Change) (i : ℕ) → RightFrom h i cs → length (contentsFor cs (map plan cs)) ≡ total (contentOf h) cs
-    content-count [] i r = refl
-    content-count (nothing ∷ cs) i r = content-count cs (suc i) (r .1) ∙ sym (zero-add (total (contentOf h) cs))
-    content-count (add x ∷ cs) i r = omega (arith, content-count cs (suc i) (r .1))
-    content-count (change x ∷ cs) i r = omega (arith, content-count cs (suc i) (r .1))
-    content-count (delete ∷ cs) i r = content-count cs (suc i) (r .1) ∙ sym (zero-add (total (contentOf h) cs))
-    content-count (copy s v x ∷ cs) i r =
-        go (same x (look (user look at 0 tables v s))) (content-count cs (suc i) (r .1))
-        ∙ ap (λ (o : Option Bytes). cond (isBytes x o) 0 1 + total (contentOf h) cs) (sym (source v s (r .0 .2)))
+    pub content-count : (cs : List Change) → Sources h cs → length (contentsFor cs (map plan cs)) ≡ total (contentOf h) cs
+    content-count [] r = refl
+    content-count (nothing ∷ cs) r = content-count cs r ∙ sym (zero-add (total (contentOf h) cs))
+    content-count (add x ∷ cs) r = omega (arith, content-count cs r)
+    content-count (change x ∷ cs) r = omega (arith, content-count cs r)
+    content-count (delete ∷ cs) r = content-count cs r ∙ sym (zero-add (total (contentOf h) cs))
+    content-count (copy s v x ∷ cs) r =
+        go (same x (look (user look at 0 tables v s))) (content-count cs (r .1))
+        ∙ ap (λ (o : Option Bytes). cond (isBytes x o) 0 1 + total (contentOf h) cs) (sym (source v s (r .0)))
       where
         go : (t : Bool) → length (contentsFor cs (map plan cs)) ≡ total (contentOf h) cs
             → length (contentsFor (copy s v x ∷ cs) (planCopy look at 0 tables t s v ∷ map plan cs)) ≡ cond t 0 1 + total (contentOf h) cs
@@ -221,6 +238,32 @@ module _ (look : ℕ → List ℕ) (at : ℕ) (tables : List Table) (h : History
         go true q f g = ((omega arith, omega (arith, below v s), omega (arith, r .0 .1), omega (arith, r .0 .2 .high)), f q)
         go false q f g = ((omega arith, omega arith, omega (arith, r .0 .1), omega (arith, r .0 .2 .high)), g (omega arith))
 
+-- what is known of the used blocks: the tables' block numbers are theirs, and the trees' bytes are in them
+module _ (bs : List Block) (h : History) (L : Lays bs h) where
+  passed : T (ok bs)
+  passed = lays-accepted bs h L .0
+
+  lays-split : Lays (front bs ++ blanks bs) h
+  lays-split = subst (λ (x : List Block). Lays x h) (sym (front-blanks bs)) L
+
+  pub some-used : 1 ≤ length (front bs)
+  some-used = some-front bs passed
+
+  pub trees-in : Trees (front bs) (blanks bs) h
+  trees-in = trees-of (front bs) (blanks bs) h (no-blank bs) (blank-rest bs passed) some-used lays-split
+
+  pub source-bytes : (v s : ℕ) → Base h v s
+      → sheet h v s ≡ some (bytesAt (front bs ++ blanks bs) (user (bytesAt (front bs ++ blanks bs)) (length (front bs)) 0 (tablesOf (front bs)) v s))
+  source-bytes v s B =
+      let t = trees-in .each v (B .high) in
+      has (bytesAt (front bs ++ blanks bs)) (getD (tablesOf (front bs)) v []) (tree h v) t s
+      (λ q. is-some (sheet h v s) (B .there) (lacks (bytesAt (front bs ++ blanks bs)) (getD (tablesOf (front bs)) v []) (tree h v) t s q))
+
+  pub user-below : (v s : ℕ) → user (bytesAt (front bs ++ blanks bs)) (length (front bs)) 0 (tablesOf (front bs)) v s < length (front bs)
+  user-below v s =
+      All-getD (λ (p : ℕ). p < length (front bs)) (getD (tablesOf (front bs)) v []) s 0
+      (All-getD (Below (length (front bs))) (tablesOf (front bs)) v [] (tables-below (front bs) (blanks bs) h (no-blank bs) some-used lays-split) tt) some-used
+
 module _ (bs : List Block) (h : History) (c : Commit) (few : length bs ≤ 4_096) (F : All FitsBlock bs) (L : Lays bs h) (M : Made h c) (short : last h < 65_535)
     (room : length (front bs) + blocksFor h (c .changes) ≤ length bs)
   where
@@ -233,25 +276,6 @@ module _ (bs : List Block) (h : History) (c : Commit) (few : length bs ≤ 4_096
     abbrev tables : List Table
     tables = tablesOf (front bs)
 
-    passed : T (ok bs)
-    passed = lays-accepted bs h L .0
-
-    lays-split : Lays (front bs ++ blanks bs) h
-    lays-split = subst (λ (x : List Block). Lays x h) (sym (front-blanks bs)) L
-
-    trees : Trees (front bs) (blanks bs) h
-    trees = trees-of (front bs) (blanks bs) h (no-blank bs) (blank-rest bs passed) (some-front bs passed) lays-split
-
-    source-bytes : (v s : ℕ) → Base h v s → sheet h v s ≡ some (look (user look at 0 tables v s))
-    source-bytes v s B =
-        has look (getD tables v []) (tree h v) (trees .each v (B .high)) s
-        (λ q. is-some (sheet h v s) (B .there) (lacks look (getD tables v []) (tree h v) (trees .each v (B .high)) s q))
-
-    user-below : (v s : ℕ) → user look at 0 tables v s < at
-    user-below v s =
-        All-getD (λ (p : ℕ). p < at) (getD tables v []) s 0
-        (All-getD (Below at) tables v [] (tables-below (front bs) (blanks bs) h (no-blank bs) (some-front bs passed) lays-split) tt) (some-front bs passed)
-
     rights : RightFrom h 0 (c .changes)
     rights = right-from h 0 (c .changes) (λ j. rw zero-add (M .right j))
 
@@ -262,23 +286,23 @@ module _ (bs : List Block) (h : History) (c : Commit) (few : length bs ≤ 4_096
     low = omega (arith, lengths)
 
     contents : length (newContents (front bs) (blanks bs) c) ≡ total (contentOf h) (c .changes)
-    contents = content-count look at tables h source-bytes user-below low (omega arith) (c .changes) 0 rights
+    contents = content-count look at tables h (source-bytes bs h L) (user-below bs h L) low (omega arith) (c .changes) (right-sources h 0 (c .changes) rights)
 
     newTables : length tables ≡ suc (last h)
-    newTables = trees .count
+    newTables = trees-in bs h L .count
 
     abbrev after : List Block
     after = drop (suc (length (newContents (front bs) (blanks bs) c))) (blanks bs)
 
     blank-left : All (λ (b : Block). b ≡ blank) after
-    blank-left = all-drop (λ (b : Block). b ≡ blank) (suc (length (newContents (front bs) (blanks bs) c))) (blanks bs) (blank-rest bs passed)
+    blank-left = all-drop (λ (b : Block). b ≡ blank) (suc (length (newContents (front bs) (blanks bs) c))) (blanks bs) (blank-rest bs (passed bs h L))
 
     some-line : 1 ≤ length (newLines (front bs) (blanks bs) c)
-    some-line = omega (arith, M .some, line-count look at tables h source-bytes user-below low (omega arith) (c .changes) 0 at)
+    some-line = omega (arith, M .some, line-count look at tables h (source-bytes bs h L) (user-below bs h L) low (omega arith) (c .changes) 0 at)
 
     pub written-lays : Lays (withCommit bs c) (h ++ (c ∷ []))
     written-lays =
-        allowed-lays (front bs) (blanks bs) after h c (no-blank bs) (blank-rest bs passed) blank-left (some-front bs passed) lays-split (M .low) (M .high) (M .wide)
+        allowed-lays (front bs) (blanks bs) after h c (no-blank bs) (blank-rest bs (passed bs h L)) blank-left (some-used bs h L) (lays-split bs h L) (M .low) (M .high) (M .wide)
         (alloweds h 0 (c .changes) rights) some-line
 
     fits-commit : FitsBlock (commit (length tables) (c .seat) (c .stamp) (newLines (front bs) (blanks bs) c))
@@ -287,8 +311,8 @@ module _ (bs : List Block) (h : History) (c : Commit) (few : length bs ≤ 4_096
       omega (arith, M .high),
       M .stamp,
       (
-        omega (arith, line-count look at tables h source-bytes user-below low (omega arith) (c .changes) 0 at, total-low (c .changes), M .wide),
-        fits-lines look at tables h source-bytes user-below low (omega arith) (c .changes) 0 at rights (omega (arith, M .wide)) (omega (arith, contents)),
+        omega (arith, line-count look at tables h (source-bytes bs h L) (user-below bs h L) low (omega arith) (c .changes) 0 at, total-low (c .changes), M .wide),
+        fits-lines look at tables h (source-bytes bs h L) (user-below bs h L) low (omega arith) (c .changes) 0 at rights (omega (arith, M .wide)) (omega (arith, contents)),
       ),
     )
 
@@ -298,7 +322,7 @@ module _ (bs : List Block) (h : History) (c : Commit) (few : length bs ≤ 4_096
         all-append FitsBlock (front bs) (newBlocks (front bs) (blanks bs) c after) (all-left FitsBlock (front bs) (blanks bs) split)
         (all-append FitsBlock (map (content (length tables)) (newContents (front bs) (blanks bs) c)) (commit (length tables) (c .seat) (c .stamp) (newLines (front bs) (blanks bs) c) ∷ after)
         (fits-contents (length tables) (newContents (front bs) (blanks bs) c) (omega (arith, newTables))
-        (short-contents look at tables h source-bytes user-below low (omega arith) (c .changes) 0 rights))
+        (short-contents look at tables h (source-bytes bs h L) (user-below bs h L) low (omega arith) (c .changes) 0 rights))
         (fits-commit, all-drop FitsBlock (suc (length (newContents (front bs) (blanks bs) c))) (blanks bs) (all-right FitsBlock (front bs) (blanks bs) split)))
 
     pub written-length : length (withCommit bs c) ≡ length bs
