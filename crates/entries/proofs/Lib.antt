@@ -1,0 +1,4 @@
+pub mod Looking
+pub mod Turns
+pub mod Checking
+pub mod States

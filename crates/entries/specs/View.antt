@@ -33,7 +33,7 @@ pub record Opened (store : Bytes) (v : View) : Type 0 where
 -- and the working copy is accepted, whether or not it fits
 pub record Viewed (store copy : Bytes) (v : View) : Type 0 where
   pub opened : Opened store v
-  pub copy : CopyAccepted copy
+  pub accepted : CopyAccepted copy
 
 -- and it fits
 pub record Fitting (store copy : Bytes) (v : View) : Type 0 where
