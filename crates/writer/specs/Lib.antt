@@ -1,2 +1,0 @@
--- The definitions that the contracts of `writer` cite.
-pub mod Blocks
