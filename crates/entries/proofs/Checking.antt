@@ -18,21 +18,21 @@ use Rattle.model.specs.Shows.{Accepted}
 use Rattle.model.specs.Store.{blockCount, checked, lawful, storeHistory, usedOf}
 use Rattle.model.specs.Types.{numberOf}
 use Rattle.model.specs.WorkCopy.{copyOk, entriesOf, seatOf}
+use Rattle.model.specs.declared.Refusal.{Refusal}
+use Rattle.model.specs.declared.Refusal.the-variants.{CopyLayout, CopyLength, StoreCheck, StoreLayout, StoreLength, Unfit}
 use Rattle.laws.proofs.Accepted.{is-T}
 use Rattle.laws.proofs.Conditions.{clear, clear-first, clear-split, none-holds}
 use Rattle.laws.proofs.Rows.{not-false}
 use Rattle.entries.specs.View.{Fitting, Viewed, checkOf, checkedBy, viewOf}
-use Rattle.store.proofs.Opening.{open-accepted}
-use Rattle.store.specs.Opened.{openOf, openedBy}
-use Rattle.workcopy.proofs.Accepting.{seat-so}
-use Rattle.workcopy.specs.Copy.{acceptOf}
-use Rattle.model.specs.declared.Refusal.{Refusal}
-use Rattle.model.specs.declared.Refusal.the-variants.{CopyLayout, CopyLength, StoreCheck, StoreLayout, StoreLength, Unfit}
-use Rattle.store.specs.declared.Header.{Header}
-use Rattle.store.specs.declared.Opened.the-variants.{Open, Refused as NotOpen}
-use Rattle.workcopy.specs.declared.Acceptance.the-variants.{Refused as NotTaken, Seat}
 use Rattle.entries.specs.declared.Checked.the-variants.{Ready, Refused}
 use Rattle.entries.specs.declared.View.{View}
+use Rattle.store.proofs.Opening.{open-accepted}
+use Rattle.store.specs.Opened.{openOf, openedBy}
+use Rattle.store.specs.declared.Header.{Header}
+use Rattle.store.specs.declared.Opened.the-variants.{Open, Refused as NotOpen}
+use Rattle.workcopy.proofs.Accepting.{seat-so}
+use Rattle.workcopy.specs.Copy.{acceptOf}
+use Rattle.workcopy.specs.declared.Acceptance.the-variants.{Refused as NotTaken, Seat}
 
 -- the lines 1 to 3, and 4 to 6
 abbrev storeLines : Bool → Bool → Bool → List Condition

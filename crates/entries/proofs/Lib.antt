@@ -2,3 +2,5 @@ pub mod Looking
 pub mod Turns
 pub mod Checking
 pub mod States
+pub mod Comparing
+pub mod Updating

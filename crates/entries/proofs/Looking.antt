@@ -1,23 +1,33 @@
 -- What a search in an accepted store says of the history: whether a tree has a sheet, and which commit names it last.
 -- Assumes nothing.
-use Prim.Native.Nat.{_<_, _≤_, ℕ}
-use mathlib.Core.Bool.{Bool, false, not, true}
+use Prim.Native.Nat.{_*_, _<_, _≤_, ℕ}
+use mathlib.Core.Bool.{false, not}
 use mathlib.Core.List.{List, [], _∷_}
-use mathlib.Core.Logic.{_↔_}
-use mathlib.Core.Option.{none}
-use mathlib.Core.Path.{_∙_, _≡_, ap, refl, sym}
+use mathlib.Core.Logic.{inl, inr}
+use mathlib.Core.Option.{Option, none, some}
+use mathlib.Core.Path.{_∙_, _≡_, ap, refl, subst, sym}
 use native.Mathlib.Omega.{arith}
 use borrow.Author.Tests.{eq-eqb, le-leb, lt-leb, ne-eqb}
 use lib.Dec.{eqb, leb, ltb}
-use lib.ListN.{List·getD-eq-default, length, take}
+use lib.ListN.{List·getD-eq-default, drop, length, take}
+use Rattle.block.proofs.Says.{eq-or}
+use Rattle.model.specs.Blocks.{bytesAt}
+use Rattle.model.specs.Calls.{storeConditions}
 use Rattle.model.specs.Fitting.{has}
 use Rattle.model.specs.History.{Bytes, Change, History, Tree, applied, last, namedAfter, namer, newest, present, sheet, tree, treeFrom, tree₀}
-use Rattle.model.specs.Store.{blockUsed, storeHistory}
+use Rattle.model.specs.Machine.{bytes}
+use Rattle.model.specs.Store.{blockCount, blockUsed, checked, lawful, storeBlocks, storeHistory}
+use Rattle.model.specs.declared.Span.{Span}
+use Rattle.laws.proofs.Accepted.{is-T}
+use Rattle.laws.proofs.Conditions.{clear}
+use Rattle.laws.proofs.Places.{heard-block}
 use Rattle.laws.proofs.Rows.{and-nothing}
+use Rattle.laws.proofs.Store.{accepted-holds}
 use Rattle.entries.specs.View.{Opened}
 use Rattle.entries.specs.declared.View.{View}
-use Rattle.search.proofs.Finding.{block-lacks}
-use Rattle.search.specs.Find.{foundIn}
+use Rattle.search.proofs.Finding.{block-holds, block-inside, block-lacks}
+use Rattle.search.proofs.Revisions.{passed}
+use Rattle.search.specs.Find.{Spanned, foundIn, spanOf}
 use Rattle.search.specs.declared.Found.{Found}
 
 -- a tree has 32 rows at most
@@ -42,17 +52,50 @@ module _ (store : Bytes) (v : View) (o : Opened store v) where
   has-far r i g = rw (no-such-sheet (storeHistory store) r i g) (sym (and-nothing (leb r (last (storeHistory store)))))
 
   module _ (r i : ℕ) (h : r ≤ v .last) where
-    pub in-history : r ≤ last (storeHistory store)
+    in-history : r ≤ last (storeHistory store)
     in-history = omega (arith, o .last)
 
-    pub present-found : {f : Found} → f ≡ foundIn store r i → not (eqb (f .block) 0) ≡ present (sheet (storeHistory store) r i)
-    present-found e =
-        let w = block-lacks store (v .n) (v .used) (o .accepted) r i in-history in
-        ap (λ (f : Found). not (eqb (f .block) 0)) e ∙ go (present (sheet (storeHistory store) r i)) refl w
+    -- block 0: the tree lacks the sheet; else the block holds it
+    pub found-none : {f : Found} → f ≡ foundIn store r i → f .block ≡ 0 → sheet (storeHistory store) r i ≡ none
+    found-none e z =
+        lacking (sheet (storeHistory store) r i) (block-lacks store (v .n) (v .used) (o .accepted) r i in-history .0 (sym (ap (λ (f : Found). f .block) e) ∙ z))
       where
-        go : (b : Bool) → present (sheet (storeHistory store) r i) ≡ b → (blockUsed store r i ≡ 0) ↔ (b ≡ false) → not (eqb (blockUsed store r i) 0) ≡ b
-        go true e w = rw (ne-eqb (blockUsed store r i) 0 (λ z. let q : _≡_ {A = ℕ} 0 1 = cc (w .0 z) in omega arith))
-        go false e w = rw (eq-eqb (blockUsed store r i) 0 (w .1 refl))
+        lacking : (s : Option Bytes) → present s ≡ false → s ≡ none
+        lacking none q = refl
+        lacking (some x) q = let z : _≡_ {A = ℕ} 0 1 = cc in absurd (omega arith)
+
+    pub found-some : {f : Found} → f ≡ foundIn store r i → (f .block ≡ 0 → ⊥)
+        → sheet (storeHistory store) r i ≡ some (bytesAt (storeBlocks store) (f .block))
+    found-some e n =
+        block-holds store (v .n) (v .used) (o .accepted) r i in-history (λ z. n (ap (λ (f : Found). f .block) e ∙ z))
+        ∙ ap (λ (f : Found). some (bytesAt (storeBlocks store) (f .block))) (sym e)
+
+    pub present-found : {f : Found} → f ≡ foundIn store r i → not (eqb (f .block) 0) ≡ present (sheet (storeHistory store) r i)
+    present-found {f} e =
+        elim (eq-or (f .block) 0) [
+          | inl z ↦ rw (eq-eqb (f .block) 0 z, found-none e z)
+          | inr n ↦ rw (ne-eqb (f .block) 0 n, found-some e n)
+        ]
+
+    -- and that block's bytes stand in the store
+    pub found-inside : {f : Found} → f ≡ foundIn store r i → f .block < blockCount store
+    found-inside e = subst (λ (f : Found). f .block < blockCount store) (sym e) (block-inside store (v .n) (v .used) (o .accepted) r i .0)
+
+    pub found-bytes : {f : Found} {x : Span} → f ≡ foundIn store r i → (f .block ≡ 0 → ⊥) → Spanned store (f .block) x
+        → sheet (storeHistory store) r i ≡ some (take (x .len) (drop (x .start) store))
+    found-bytes {f} {x} e n s =
+        let a = o .accepted in
+        let c = clear (storeConditions store) (a .clear) in
+        let l : length store ≡ blockCount store * 512 = subst (λ (m : ℕ). length store ≡ m * 512) (a .count) (passed store (v .n) (v .used) a .whole) in
+        let H = accepted-holds (blockCount store) store l (is-T (checked (blockCount store) store) (c .1 .0)) (is-T (lawful (blockCount store) store) (c .1 .1 .0)) in
+        let q : x ≡ spanOf store (blockUsed store r i) = s .is ∙ ap (λ (f : Found). spanOf store (f .block)) e in
+        let y = bytesAt (storeBlocks store) (f .block) in
+        found-some e n
+        ∙ ap some (sym (ap (λ (x : Span). take (x .len) (drop (x .start) store)) q
+        ∙ inside (heard-block (blockCount store) store [] (storeHistory store) r i y refl H in-history (found-some e n))))
+      where
+        inside : {a b : Bytes} → bytes a ≡ bytes b → a ≡ b
+        inside e = cc
 
     pub has-found : {f : Found} → f ≡ foundIn store r i → not (eqb (f .block) 0) ≡ has (storeHistory store) r i
     has-found e = rw (le-leb r (last (storeHistory store)) in-history) (present-found e)

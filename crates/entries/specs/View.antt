@@ -1,8 +1,8 @@
 -- What is known of buffers that are accepted; what `check` answers; what update makes of an entry.
 -- Assumes nothing.
-use Prim.Native.Nat.{ℕ}
+use Prim.Native.Nat.{_<_, ℕ}
 use mathlib.Core.Bool.{Bool, cond, true}
-use mathlib.Core.List.{_++_, []}
+use mathlib.Core.List.{[], _++_}
 use mathlib.Core.Option.{Option, none, some}
 use mathlib.Core.Path.{_≡_}
 use lib.Dec.{eqb}
@@ -12,18 +12,19 @@ use Rattle.model.specs.Calls.{copyConditions, storeConditions}
 use Rattle.model.specs.Entry.{Entry, added, copied, deleted, empty, normal, ownBytes}
 use Rattle.model.specs.Fitting.{fitsStore}
 use Rattle.model.specs.History.{Bytes, last}
+use Rattle.model.specs.Machine.{updatedTo}
 use Rattle.model.specs.Refusals.{firstOf}
 use Rattle.model.specs.Store.{blockCount, storeBlocks, storeHistory, usedOf}
 use Rattle.model.specs.WorkCopy.{entriesOf, seatOf}
 use Rattle.model.specs.declared.Refusal.{Refusal}
-use Rattle.model.specs.declared.Refusal.the-variants.{StoreLength, StoreCheck, StoreLayout, CopyLength, CopyLayout, Unfit}
-use Rattle.search.specs.Find.{Accepted}
-use Rattle.workcopy.specs.Copy.{Accepted as CopyAccepted}
+use Rattle.model.specs.declared.Refusal.the-variants.{CopyLayout, CopyLength, StoreCheck, StoreLayout, StoreLength, Unfit}
 use Rattle.entries.specs.declared.Checked.{Checked}
 use Rattle.entries.specs.declared.Checked.the-variants.{Ready, Refused}
 use Rattle.entries.specs.declared.Update.{Update}
 use Rattle.entries.specs.declared.Update.the-variants.{Clear, Conflict, Rebase, Stay, Take}
 use Rattle.entries.specs.declared.View.{View}
+use Rattle.search.specs.Find.{Accepted}
+use Rattle.workcopy.specs.Copy.{Accepted as CopyAccepted}
 
 -- the store is accepted, and these are its numbers
 pub record Opened (store : Bytes) (v : View) : Type 0 where
@@ -92,3 +93,16 @@ updatedAs Stay store R e = some e
 updatedAs Clear store R e = some empty
 updatedAs (Take p) store R e = some (normal R (bytesAt (storeBlocks store) p))
 updatedAs Rebase store R e = some (rebased R e)
+
+-- a block that is taken is one of the store's
+abbrev pub Stands : Bytes → Update → Type 0
+Stands store Conflict = Unit {0}
+Stands store Stay = Unit {0}
+Stands store Clear = Unit {0}
+Stands store (Take p) = p < blockCount store
+Stands store Rebase = Unit {0}
+
+-- x is what an update to R makes of entry i
+pub record UpdateIs (store copy : Bytes) (R i : ℕ) (x : Update) : Type 0 where
+  pub means : updatedAs x store R (entryIn copy i) ≡ updatedTo (storeHistory store) R i (entryIn copy i)
+  pub stands : Stands store x

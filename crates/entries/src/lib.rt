@@ -1,8 +1,7 @@
 // The entries of a working copy held against an accepted store: whether the copy fits, and what each entry is. Inner functions but for `check`, which takes any two buffers.
-use model::Entry;
 use model::Refusal;
 use model::State;
-ghost use Prim.Native.Nat.{ℕ, _<_, _≤_};
+ghost use Prim.Native.Nat.{_<_, _≤_};
 ghost use mathlib.Core.Bool.{not};
 ghost use mathlib.Core.Path.{_≡_};
 ghost use Rattle.block.specs.Lists.{same};
@@ -10,11 +9,11 @@ ghost use Rattle.model.specs.Entry.{pending};
 ghost use Rattle.model.specs.Fitting.{fitsEntry, fitsStore};
 ghost use Rattle.model.specs.Fitting.{has as hasSheet};
 ghost use Rattle.model.specs.History.{isBytes, namedAfter, newest, present, sheet};
-ghost use Rattle.model.specs.Machine.{sameNamer, statusOf, updatedTo};
+ghost use Rattle.model.specs.Machine.{sameNamer, statusOf};
 ghost use Rattle.model.specs.Refusals.{outOfDate};
 ghost use Rattle.model.specs.Store.{storeHistory};
 ghost use Rattle.model.specs.WorkCopy.{entriesOf};
-ghost use Rattle.entries.specs.View.{Fitting, Opened, Viewed, bytesOf, checkOf, entryIn, normalStatus, takenAs, updatedAs};
+ghost use Rattle.entries.specs.View.{Fitting, Opened, UpdateIs, Viewed, bytesOf, checkOf, entryIn, normalStatus, takenAs};
 
 // What is known of two buffers that are accepted: the store's blocks, its used blocks and last revision, and the copy's seat.
 pub struct View {
@@ -268,7 +267,7 @@ fn same_namer(store: &[u8], v: View, r: usize, b: usize, i: usize) -> bool
 // What an update to r makes of entry i.
 pub fn update_of<'a>(store: &'a [u8], copy: &'a [u8], v: View, r: usize, i: usize) -> Update
     requires { ⌜ Fitting (now store) (now copy) v × (i < 32) × (r ≤ v .last) ⌝ }
-    ensures { λ x. ⌜ updatedAs x (now (store .entry)) r (entryIn (now (copy .entry)) i) ≡ updatedTo (storeHistory (now (store .entry))) r i (entryIn (now (copy .entry)) i) ⌝ }
+    ensures { λ x. ⌜ UpdateIs (now (store .entry)) (now (copy .entry)) r i x ⌝ }
 {
     let f = search::look_up(store, v.n, v.used, r, i);
     let p = f.block;

@@ -1,5 +1,5 @@
--- Assumes nothing.
 -- `entries::check` meets its contract: the store's refusals, the copy's, and then whether it fits.
+-- Assumes nothing.
 use mathlib.Core.Path.{_∙_, sym}
 use borrow.Author.Needs.{needs}
 use Rattle.entries.proofs.Checking.{both-ready, both-unfit, both-viewed, copy-refused, store-refused}

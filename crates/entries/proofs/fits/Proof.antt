@@ -1,5 +1,5 @@
--- Assumes nothing.
 -- `entries::fits` meets its contract. The invariant: whether the entries that are left fit is whether all do.
+-- Assumes nothing.
 use Prim.Native.Nat.{_-_, _≤_}
 use mathlib.Core.Path.{_∙_, _≡_, sym}
 use native.Mathlib.Omega.{arith}

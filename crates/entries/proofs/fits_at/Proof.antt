@@ -1,5 +1,5 @@
--- Assumes nothing.
 -- `entries::fits_at` meets its contract, state by state.
+-- Assumes nothing.
 use mathlib.Core.Path.{_∙_, ap, sym}
 use borrow.Author.Needs.{needs}
 use Rattle.model.specs.Fitting.{fitsEntry}

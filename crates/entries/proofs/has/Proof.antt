@@ -1,5 +1,5 @@
--- Assumes nothing.
 -- `entries::has` meets its contract, one law for each answer.
+-- Assumes nothing.
 use native.Mathlib.Omega.{arith}
 use borrow.Author.Needs.{needs}
 use Rattle.entries.proofs.Looking.{has-far, has-found, has-late}

@@ -1,5 +1,5 @@
--- Assumes nothing.
 -- `entries::in_newest` meets its contract: the search at the last revision.
+-- Assumes nothing.
 use borrow.Author.Needs.{needs}
 use Rattle.entries.proofs.Looking.{newest-found}
 use Rattle.entries.proofs.in_newest.Statement.{statement}

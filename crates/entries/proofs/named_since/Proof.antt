@@ -1,5 +1,5 @@
--- Assumes nothing.
 -- `entries::named_since` meets its contract: the last commit that names the sheet comes after b.
+-- Assumes nothing.
 use borrow.Author.Needs.{needs}
 use Rattle.entries.proofs.Looking.{named-found}
 use Rattle.entries.proofs.named_since.Statement.{statement}

@@ -1,5 +1,5 @@
--- Assumes nothing.
 -- `entries::same_namer` meets its contract: two searches.
+-- Assumes nothing.
 use mathlib.Core.Path.{ap₂}
 use borrow.Author.Needs.{needs}
 use lib.Dec.{eqb}

@@ -1,5 +1,5 @@
--- Assumes nothing.
 -- `entries::same_part` meets its contract. The invariant: what is left gives the whole.
+-- Assumes nothing.
 use Prim.Native.Nat.{_-_, _<_, _≤_}
 use mathlib.Core.Path.{_∙_, _≡_, refl, sym}
 use native.Mathlib.Omega.{arith}

@@ -1,5 +1,5 @@
--- Assumes nothing.
 -- `entries::taken` meets its contract.
+-- Assumes nothing.
 use borrow.Author.Tests.{eq-eqb, ne-eqb}
 use Rattle.entries.proofs.taken.Statement.{statement}
 use Rattle.entries.proofs.taken.Tie as tie

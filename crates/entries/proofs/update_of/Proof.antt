@@ -1,0 +1,149 @@
+-- `entries::update_of` meets its contract, one law for each answer.
+-- Assumes nothing.
+use borrow.Author.Needs.{needs}
+use borrow.Author.Tests.{not-false, not-true}
+use Rattle.entries.proofs.States.{deleted-base, normal-base}
+use Rattle.entries.proofs.Updating.{conflict-added, conflict-copied, conflict-deleted, conflict-modified, stay-added, stay-copied, update-deleted, update-empty, update-modified, update-unmodified}
+use Rattle.entries.proofs.update_of.Statement.{statement}
+use Rattle.entries.proofs.update_of.Tie as tie
+
+look-up-requires : tie.Need-look-up-requires
+look-up-requires c κs = search needs
+
+entry-at-requires : tie.Need-entry-at-requires
+entry-at-requires c κs = search needs
+
+enum-told : tie.Need-enum-told
+enum-told c = search needs
+
+taken-requires : tie.Need-taken-requires
+taken-requires c κs = search needs
+
+enum-known-state : tie.Need-enum-known-state
+enum-known-state c = search needs
+
+cast-differs : tie.Need-cast-differs
+cast-differs c = search needs
+
+differs-requires : tie.Need-differs-requires
+differs-requires c κs =
+    let k = c .before .before .before .before .before .before .before in
+    (k .pre .0 .viewed, k .pre .1, normal-base (k .args .store .now) (k .args .copy .now) (k .args .v) (k .pre .0) (c .before .before .before .entry-at .ensures) (c .before .state .given .1), k .pre .1)
+
+taken-requires-2 : tie.Need-taken-requires-2
+taken-requires-2 c κs = search needs
+
+returns : tie.Need-returns
+returns c =
+    let k = c .before .before .before .before .before .before .before .before .before .before in
+    update-unmodified (k .args .store .now) (k .args .copy .now) (k .args .v) (k .pre .0 .viewed .opened) (k .args .r) (k .args .i) (k .pre .2) (c .before .before .before .before .before .before .before .look-up .ensures) (c .before .before .before .before .before .before .entry-at .ensures)
+    (c .before .before .before .before .state .given .1) (c .before .before .differs .ensures) (not-true _ (c .before .if1 .taken)) (c .taken2 .ensures)
+
+cast-same-namer : tie.Need-cast-same-namer
+cast-same-namer c = search needs
+
+same-namer-requires : tie.Need-same-namer-requires
+same-namer-requires c κs =
+    let k = c .before .before .before .before .before .before .before .before .before in
+    (k .pre .0 .viewed .opened, k .pre .2, normal-base (k .args .store .now) (k .args .copy .now) (k .args .v) (k .pre .0) (c .before .before .before .before .before .entry-at .ensures) (c .before .before .before .state .given .1), k .pre .1)
+
+returns-2 : tie.Need-returns-2
+returns-2 c =
+    let k = c .before .before .before .before .before .before .before .before .before .before .before in
+    update-modified (k .args .store .now) (k .args .copy .now) (k .args .v) (k .pre .0 .viewed .opened) (k .args .r) (k .args .i) (k .pre .2) (c .before .before .before .before .before .before .before .before .look-up .ensures) (c .before .before .before .before .before .before .before .entry-at .ensures)
+    (c .before .before .before .before .before .state .given .1) (c .before .before .before .differs .ensures) (not-false _ (c .before .before .if1 .left)) (c .before .same-namer .ensures) (c .if2 .taken)
+
+enum-told-2 : tie.Need-enum-told-2
+enum-told-2 c = search needs
+
+returns-3 : tie.Need-returns-3
+returns-3 c =
+    let k = c .before .before .before .before .before .before .before in
+    conflict-added (k .args .store .now) (k .args .copy .now) (k .args .v) (k .pre .0 .viewed .opened) (k .args .r) (k .args .i) (k .pre .2) (c .before .before .before .before .look-up .ensures) (c .before .before .before .entry-at .ensures)
+    (c .if3 .taken) (c .before .enum-told2 .given .1)
+
+enum-known-state-2 : tie.Need-enum-known-state-2
+enum-known-state-2 c = search needs
+
+cast-same-namer-2 : tie.Need-cast-same-namer-2
+cast-same-namer-2 c = search needs
+
+same-namer-requires-2 : tie.Need-same-namer-requires-2
+same-namer-requires-2 c κs =
+    let k = c .before .before .before .before .before .before .before in
+    (k .pre .0 .viewed .opened, k .pre .2, deleted-base (k .args .store .now) (k .args .copy .now) (k .args .v) (k .pre .0) (c .before .before .before .entry-at .ensures) (c .before .state2 .given .1), k .pre .1)
+
+returns-4 : tie.Need-returns-4
+returns-4 c =
+    let k = c .before .before .before .before .before .before .before .before .before in
+    update-deleted (k .args .store .now) (k .args .copy .now) (k .args .v) (k .pre .0 .viewed .opened) (k .args .r) (k .args .i) (k .pre .2) (c .before .before .before .before .before .before .look-up .ensures) (c .before .before .before .before .before .entry-at .ensures)
+    (c .before .before .before .state2 .given .1) (c .before .same-namer2 .ensures) (c .if4 .taken)
+
+enum-told-3 : tie.Need-enum-told-3
+enum-told-3 c = search needs
+
+returns-5 : tie.Need-returns-5
+returns-5 c =
+    let k = c .before .before .before .before .before .before .before in
+    conflict-copied (k .args .store .now) (k .args .copy .now) (k .args .v) (k .pre .0 .viewed .opened) (k .args .r) (k .args .i) (k .pre .2) (c .before .before .before .before .look-up .ensures) (c .before .before .before .entry-at .ensures)
+    (c .if5 .taken) (c .before .enum-told3 .given .1)
+
+returns-6 : tie.Need-returns-6
+returns-6 c =
+    let k = c .before .before .before .before .before .before .before in
+    update-empty (k .args .store .now) (k .args .copy .now) (k .args .v) (k .pre .0 .viewed .opened) (k .args .r) (k .args .i) (k .pre .2) (c .before .before .before .before .look-up .ensures) (c .before .before .before .entry-at .ensures)
+    (c .before .enum-told .given .1) (c .taken .ensures)
+
+returns-7 : tie.Need-returns-7
+returns-7 c =
+    let k = c .before .before .before .before .before .before .before .before .before .before .before in
+    conflict-modified (k .args .store .now) (k .args .copy .now) (k .args .v) (k .pre .0 .viewed .opened) (k .args .r) (k .args .i) (k .pre .2) (c .before .before .before .before .before .before .before .before .look-up .ensures) (c .before .before .before .before .before .before .before .entry-at .ensures)
+    (c .before .before .before .before .before .state .given .1) (c .before .before .before .differs .ensures) (not-false _ (c .before .before .if1 .left)) (c .before .same-namer .ensures) (c .if2 .left)
+
+returns-8 : tie.Need-returns-8
+returns-8 c =
+    let k = c .before .before .before .before .before .before .before in
+    stay-added (k .args .store .now) (k .args .copy .now) (k .args .v) (k .pre .0 .viewed .opened) (k .args .r) (k .args .i) (k .pre .2) (c .before .before .before .before .look-up .ensures) (c .before .before .before .entry-at .ensures)
+    (c .if3 .left) (c .before .enum-told2 .given .1)
+
+returns-9 : tie.Need-returns-9
+returns-9 c =
+    let k = c .before .before .before .before .before .before .before .before .before in
+    conflict-deleted (k .args .store .now) (k .args .copy .now) (k .args .v) (k .pre .0 .viewed .opened) (k .args .r) (k .args .i) (k .pre .2) (c .before .before .before .before .before .before .look-up .ensures) (c .before .before .before .before .before .entry-at .ensures)
+    (c .before .before .before .state2 .given .1) (c .before .same-namer2 .ensures) (c .if4 .left)
+
+returns-10 : tie.Need-returns-10
+returns-10 c =
+    let k = c .before .before .before .before .before .before .before in
+    stay-copied (k .args .store .now) (k .args .copy .now) (k .args .v) (k .pre .0 .viewed .opened) (k .args .r) (k .args .i) (k .pre .2) (c .before .before .before .before .look-up .ensures) (c .before .before .before .entry-at .ensures)
+    (c .if5 .left) (c .before .enum-told3 .given .1)
+
+pub update-of-spec : {M : Type 1} → statement M
+update-of-spec =
+    tie.close
+    (tie.spec
+    look-up-requires
+    entry-at-requires
+    enum-told
+    taken-requires
+    enum-known-state
+    cast-differs
+    differs-requires
+    taken-requires-2
+    returns
+    cast-same-namer
+    same-namer-requires
+    returns-2
+    enum-told-2
+    returns-3
+    enum-known-state-2
+    cast-same-namer-2
+    same-namer-requires-2
+    returns-4
+    enum-told-3
+    returns-5
+    returns-6
+    returns-7
+    returns-8
+    returns-9
+    returns-10)
