@@ -47,7 +47,7 @@ use Rattle.workcopy.specs.Copy.{Carries, PutOk, Reading, bytesIn}
 
 module _ {store copy : Bytes} {k r p : ℕ} (T : Takable store copy k r p) {x : Span} (s : Spanned store p x) where
   -- its bytes stand in the store
-  pub taken-bytes : take (x .start + x .len - x .start) (drop (x .start) store) ≡ bytesAt (storeBlocks store) p
+  taken-bytes : take (x .start + x .len - x .start) (drop (x .start) store) ≡ bytesAt (storeBlocks store) p
   taken-bytes =
       let a : Accepted store (blockCount store) (usedOf store) = record { clear = T .clear; count = refl; inUse = refl } in
       let c = clear (storeConditions store) (T .clear) in
@@ -58,6 +58,10 @@ module _ {store copy : Bytes} {k r p : ℕ} (T : Takable store copy k r p) {x : 
       ∙ ap (λ (x : Span). take (x .len) (drop (x .start) store)) (s .is)
       ∙ ap (λ (l : Bytes). take (length (bytesAt (storeBlocks store) p)) (drop (512 * p + 16) l)) (sym (B .bytes))
       ∙ store-place (storeBlocks store) p (B .fit)
+
+  pub take-leaves : {t : Bytes} → t ≡ copyBytes (seatOf copy) (set (entriesOf copy) k (normal r (take (x .start + x .len - x .start) (drop (x .start) store))))
+      → t ≡ copyBytes (seatOf copy) (set (entriesOf copy) k (normal r (bytesAt (storeBlocks store) p)))
+  take-leaves w = w ∙ ap (λ (b : Bytes). copyBytes (seatOf copy) (set (entriesOf copy) k (normal r b))) taken-bytes
 
   pub take-put : PutOk copy k (record { state = Normal r; len = x .len }) (take (x .start + x .len - x .start) (drop (x .start) store))
   take-put = record {
@@ -87,6 +91,9 @@ module _ (store copy : Bytes) (v : View) (F : Fitting store copy v) (k : ℕ) wh
   }
 
   -- ---- revert
+
+  pub revert-keeps : FitsAt h k (revertedOf h k (entryIn copy k))
+  revert-keeps = fits-reverted h k (entryIn copy k) (kept store copy v F .sound) (kept store copy v F .fits k)
 
   module _ {b : ℕ} (B : Base h b k) {f : Found} (e : f ≡ foundIn store b k) where
     base-near : b ≤ v .last
@@ -139,6 +146,9 @@ module _ (store copy : Bytes) (v : View) (F : Fitting store copy v) (k : ℕ) wh
 
   -- ---- update
 
+  pub update-keeps : (R : ℕ) → R ≤ v .last → FitsAt h k (updatedOf h R k (entryIn copy k))
+  update-keeps R le = fits-updated h R k (entryIn copy k) (kept store copy v F .sound) (omega (arith, F .viewed .opened .last)) (kept store copy v F .fits k)
+
   module _ (R : ℕ) {u : Update} (U : UpdateIs store copy R k u) where
     pub conflict-as : {w : Update} → u ≡ w → lacking (updatedAs w store R (entryIn copy k)) ≡ conflicting store copy R k
     conflict-as q = ap (λ (w : Update). lacking (updatedAs w store R (entryIn copy k))) (sym q) ∙ ap lacking (U .means)
@@ -161,11 +171,8 @@ module _ (store copy : Bytes) (v : View) (F : Fitting store copy v) (k : ℕ) wh
     update-takes q w = w ∙ ap put (left q)
 
     module _ (le : R ≤ v .last) where
-      left-fits : FitsAt h k (updatedOf h R k (entryIn copy k))
-      left-fits = fits-updated h R k (entryIn copy k) (kept store copy v F .sound) (omega (arith, F .viewed .opened .last)) (kept store copy v F .fits k)
-
       pub update-takable : {p : ℕ} → k < 32 → u ≡ Take p → Takable store copy k R p
-      update-takable g q = takable g (subst (Stands store) q (U .stands)) (subst (FitsAt h k) (sym (left q)) left-fits)
+      update-takable g q = takable g (subst (Stands store) q (U .stands)) (subst (FitsAt h k) (sym (left q)) (update-keeps R le))
 
       module _ (q : u ≡ Rebase) {e : TheEntry} (r : Reading copy k e) {s : State} (z : s ≡ rebasedState R (e .state)) where
         abbrev own : Bytes
@@ -191,7 +198,7 @@ module _ (store copy : Bytes) (v : View) (F : Fitting store copy v) (k : ℕ) wh
           fit = record {
             whole = r .whole;
             carries = subst (λ (s : State). Carries s (e .len)) (sym z) (carried (e .state) (e .len) (r .carries));
-            fits = fits-limits store copy v F k (entryAs s own) (subst (FitsAt h k) (sym rebase-is) left-fits);
+            fits = fits-limits store copy v F k (entryAs s own) (subst (FitsAt h k) (sym rebase-is) (update-keeps R le));
           };
         }
           where

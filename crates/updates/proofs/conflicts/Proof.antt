@@ -1,3 +1,7 @@
+-- Assumes nothing.
+-- `updates::conflicts` meets its contract, one answer for each way of an update.
+use Rattle.updates.proofs.Entering.{conflict-as}
+use native.Mathlib.Omega.{arith}
 use borrow.Author.Needs.{needs}
 use Rattle.updates.proofs.conflicts.Statement.{statement}
 use Rattle.updates.proofs.conflicts.Tie as tie
@@ -5,49 +9,38 @@ use Rattle.updates.proofs.conflicts.Reads as reads
 use Rattle.updates.proofs.conflicts.Lts as lts
 use Rattle.entries.proofs.update_of.Reads as update-of-reads
 
--- src/lib.rt:126:9
 update-of-requires : tie.Need-update-of-requires
 update-of-requires c κs = search needs
 
--- src/lib.rt:128:29
 enum-told : tie.Need-enum-told
 enum-told c = search needs
 
--- src/lib.rt:129:25
 enum-told-2 : tie.Need-enum-told-2
 enum-told-2 c = search needs
 
--- src/lib.rt:130:26
 enum-told-3 : tie.Need-enum-told-3
 enum-told-3 c = search needs
 
--- src/lib.rt:131:28
 enum-told-4 : tie.Need-enum-told-4
 enum-told-4 c = search needs
 
--- src/lib.rt:132:27
 enum-told-5 : tie.Need-enum-told-5
 enum-told-5 c = search needs
 
--- src/lib.rt:122:1
 returns : tie.Need-returns
-returns c = ?
+returns c = let k = c .before .before .before .before .before in let a = k .args in conflict-as (a .store .now) (a .copy .now) (a .v) (k .pre .0) (a .k) (a .r) (c .before .before .update-of .ensures) (c .enum-told .given .1)
 
--- src/lib.rt:122:1
 returns-2 : tie.Need-returns-2
-returns-2 c = ?
+returns-2 c = let k = c .before .before .before .before .before in let a = k .args in conflict-as (a .store .now) (a .copy .now) (a .v) (k .pre .0) (a .k) (a .r) (c .before .before .update-of .ensures) (c .enum-told2 .given .1)
 
--- src/lib.rt:122:1
 returns-3 : tie.Need-returns-3
-returns-3 c = ?
+returns-3 c = let k = c .before .before .before .before .before in let a = k .args in conflict-as (a .store .now) (a .copy .now) (a .v) (k .pre .0) (a .k) (a .r) (c .before .before .update-of .ensures) (c .enum-told3 .given .1)
 
--- src/lib.rt:122:1
 returns-4 : tie.Need-returns-4
-returns-4 c = ?
+returns-4 c = let k = c .before .before .before .before .before in let a = k .args in conflict-as (a .store .now) (a .copy .now) (a .v) (k .pre .0) (a .k) (a .r) (c .before .before .update-of .ensures) (c .enum-told4 .given .1)
 
--- src/lib.rt:122:1
 returns-5 : tie.Need-returns-5
-returns-5 c = ?
+returns-5 c = let k = c .before .before .before .before .before in let a = k .args in conflict-as (a .store .now) (a .copy .now) (a .v) (k .pre .0) (a .k) (a .r) (c .before .before .update-of .ensures) (c .enum-told5 .given .1)
 
 pub conflicts-spec : {M : Type 1} → statement M
 conflicts-spec =

@@ -1,3 +1,16 @@
+-- Assumes nothing.
+-- of what is left.
+-- `updates::revert_all` meets its contract. The loop's invariant: what is left to do from here gives the whole, and the copy still fits. The measure is the mask
+use Prim.Native.Nat.{_<_}
+use mathlib.Core.Path.{refl}
+use lib.Count.{trailingZeros}
+use Rattle.masks.proofs.Bits.{Lowest, and-cleared, cleared-lt, lowest}
+use Rattle.model.specs.Machine.{revertedOf}
+use Rattle.model.specs.Store.{storeHistory}
+use Rattle.updates.proofs.Entering.{revert-keeps}
+use Rattle.updates.proofs.Rounds.{Doing, doing-end, doing-length, doing-next}
+use borrow.Author.Needs.{needs}
+use native.Mathlib.Omega.{arith}
 use Rattle.updates.proofs.revert_all.Statement.{statement}
 use Rattle.updates.proofs.revert_all.Tie as tie
 use Rattle.updates.proofs.revert_all.Reads as reads
@@ -5,42 +18,41 @@ use Rattle.updates.proofs.revert_all.Lts as lts
 use Rattle.updates.proofs.revert_one.Reads as revert-one-reads
 
 abbrev Inv-loop : tie.InvT-loop
-Inv-loop store copy₀ v mask m₀ copy m = ?
+Inv-loop store copy₀ v mask m₀ copy m = Doing store v (revertedOf (storeHistory store)) mask copy₀ copy m
 
 abbrev μ-loop : tie.MeasureT-loop
-μ-loop store copy₀ v mask m₀ copy m = ?
+μ-loop store copy₀ v mask m₀ copy m = m
 
--- src/lib.rt:100:5
+low : (c : tie.In-loop Inv-loop μ-loop) → (trailingZeros 32 (c .before .loop .m) < 32) × Lowest (c .before .loop .m) (trailingZeros 32 (c .before .loop .m))
+low c = lowest 32 (c .before .loop .m) (omega arith) (c .before .loop .inv .small)
+
 loop-holds : tie.Need-loop-holds Inv-loop μ-loop
-loop-holds c = ?
+loop-holds c = record { small = omega arith; fitting = c .before .before .pre; left = refl }
 
--- src/lib.rt:101:17
 cast-k : tie.Need-cast-k Inv-loop μ-loop
-cast-k c = ?
+cast-k c = omega (arith, low c .0)
 
--- src/lib.rt:102:9
 revert-one-requires : tie.Need-revert-one-requires Inv-loop μ-loop
-revert-one-requires c κs = ?
+revert-one-requires c κs = (c .before .before .loop .inv .fitting, low (c .before) .0)
 
--- src/lib.rt:103:14
 sub-m : tie.Need-sub-m Inv-loop μ-loop
-sub-m c = ?
+sub-m c = omega arith
 
--- src/lib.rt:100:5
 loop-less : tie.Need-loop-less Inv-loop μ-loop
-loop-less c = ?
+loop-less c = let l = low (c .before .before .before .before) in rw (and-cleared (l .1)) (cleared-lt (l .1))
 
--- src/lib.rt:100:5
 loop-again : tie.Need-loop-again Inv-loop μ-loop
-loop-again c = ?
+loop-again c =
+    let l = low (c .before .before .before .before) in
+    let a = c .before .before .before .before .before .before .before .before .args in
+    let d = c .before .before .before .before .before .loop in
+    rw (and-cleared (l .1)) (doing-next (d .inv) (l .1) (l .0) (revert-keeps (a .store .now) (d .copy) (a .v) (d .inv .fitting) (trailingZeros 32 (d .m))) (c .before .before .revert-one .ensures))
 
--- src/lib.rt:95:1
 same-length : tie.Need-same-length Inv-loop μ-loop
-same-length c = ?
+same-length c = doing-length (c .before .loop .inv) (c .before .before .before .before .pre)
 
--- src/lib.rt:95:1
 returns : tie.Need-returns Inv-loop μ-loop
-returns c = ?
+returns c = doing-end (c .before .loop .inv) (c .before .before .before .before .pre) (omega arith)
 
 pub revert-all-spec : {M : Type 1} → statement M
 revert-all-spec =
