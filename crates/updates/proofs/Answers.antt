@@ -41,7 +41,7 @@ module _ (store copy : Bytes) where
       pub revert-done : {t : Bytes} → t ≡ copyBytes (seatOf copy) (reverted (storeHistory store) mask (entriesOf copy)) → outAs Done store t ≡ innerOut store copy (Revert mask)
       revert-done p = done-is (Revert mask) (rw (ne-eqb mask 0 n)) (ap (outAs Done store) (sym p))
 
-      module _ (v : View) (F : Fitting store copy v) (R : ℕ) where
+      module _ {v : View} (F : Fitting store copy v) (R : ℕ) where
         pub update-late : v .last < R → outAs (Refused Range) store copy ≡ innerOut store copy (UpdateCall mask R)
         update-late g = refused-is (UpdateCall mask R) Range (rw (ne-eqb mask 0 n, lt-ltb (last (storeHistory store)) R (omega (arith, F .viewed .opened .last))))
 

@@ -74,15 +74,15 @@ module _ {store copy : Bytes} {k r p : ℕ} (T : Takable store copy k r p) {x : 
     };
   }
 
-module _ (store copy : Bytes) (v : View) (F : Fitting store copy v) (k : ℕ) where
+module _ {store copy : Bytes} {v : View} (F : Fitting store copy v) where
   abbrev h : History
   h = storeHistory store
 
-  abbrev put : Entry → Bytes
-  put e = copyBytes (seatOf copy) (set (entriesOf copy) k e)
+  abbrev put : ℕ → Entry → Bytes
+  put k e = copyBytes (seatOf copy) (set (entriesOf copy) k e)
 
-  takable : {r p : ℕ} → k < 32 → p < blockCount store → FitsAt h k (normal r (bytesAt (storeBlocks store) p)) → Takable store copy k r p
-  takable {r} {p} g n f = record {
+  takable : {k r p : ℕ} → k < 32 → p < blockCount store → FitsAt h k (normal r (bytesAt (storeBlocks store) p)) → Takable store copy k r p
+  takable {k} {r} {p} g n f = record {
     clear = F .viewed .opened .accepted .clear;
     accepted = F .viewed .accepted;
     inside = g;
@@ -92,119 +92,104 @@ module _ (store copy : Bytes) (v : View) (F : Fitting store copy v) (k : ℕ) wh
 
   -- ---- revert
 
-  pub revert-keeps : FitsAt h k (revertedOf h k (entryIn copy k))
-  revert-keeps = fits-reverted h k (entryIn copy k) (kept store copy v F .sound) (kept store copy v F .fits k)
+  pub revert-keeps : (k : ℕ) → FitsAt h k (revertedOf h k (entryIn copy k))
+  revert-keeps k = fits-reverted h k (entryIn copy k) (kept store copy v F .sound) (kept store copy v F .fits k)
 
-  module _ {b : ℕ} (B : Base h b k) {f : Found} (e : f ≡ foundIn store b k) where
-    base-near : b ≤ v .last
-    base-near = omega (arith, B .high, F .viewed .opened .last)
+  -- the block that was found for the sheet of a base
+  module _ {b k : ℕ} (B : Base h b k) {f : Found} (e : f ≡ foundIn store b k) where
+    near : b ≤ v .last
+    near = omega (arith, B .high, F .viewed .opened .last)
 
     base-taken : asIn b (sheet h b k) ≡ normal b (bytesAt (storeBlocks store) (f .block))
     base-taken =
         elim (eq-or (f .block) 0) [
-          | inl z ↦ let q = ap present (found-none store v (F .viewed .opened) b k base-near e z) in let w : _≡_ {A = ℕ} 0 1 = cc (q, B .there) in absurd (omega arith)
-          | inr n ↦ ap (asIn b) (found-some store v (F .viewed .opened) b k base-near e n)
+          | inl z ↦
+            let q = ap present (found-none store v (F .viewed .opened) b k near e z) in
+            let w : _≡_ {A = ℕ} 0 1 = cc (q, B .there) in
+            absurd (omega arith)
+          | inr n ↦ ap (asIn b) (found-some store v (F .viewed .opened) b k near e n)
         ]
 
-    base-takable : k < 32 → Takable store copy k b (f .block)
-    base-takable g =
-        takable g (found-inside store v (F .viewed .opened) b k base-near e)
-        (subst (FitsAt h k) base-taken (fits-reverted h k (deleted b) (kept store copy v F .sound) B))
+    pub sheet-takable : k < 32 → Takable store copy k b (f .block)
+    sheet-takable g =
+        takable g (found-inside store v (F .viewed .opened) b k near e) (subst (FitsAt h k) base-taken (fits-reverted h k (deleted b) (kept store copy v F .sound) B))
 
-  module _ {e : TheEntry} (r : Reading copy k e) where
-    reverts : {s : State} {t : Bytes} {x : Entry} → e .state ≡ s → t ≡ put x → x ≡ revertedOf h k (entryAs s (bytesIn e (blockAt copy (k + 1)))) → t ≡ put (revertedOf h k (entryIn copy k))
-    reverts q w z = w ∙ ap put (z ∙ sym (ap (revertedOf h k) (as-read r q)))
+    pub sheet-taken : {t : Bytes} → t ≡ put k (normal b (bytesAt (storeBlocks store) (f .block))) → t ≡ put k (asIn b (sheet h b k))
+    sheet-taken w = w ∙ ap (put k) (sym base-taken)
 
-    pub revert-stays : e .state ≡ Empty → copy ≡ put (revertedOf h k (entryIn copy k))
-    revert-stays q = reverts q (same-entry store copy v F k (sym (as-read r q))) refl
+  module _ {k : ℕ} {e : TheEntry} (r : Reading copy k e) where
+    pub normal-base : {b : ℕ} → e .state ≡ Normal b → Base h b k
+    normal-base q = subst (FitsAt h k) (as-read r q) (kept store copy v F .fits k) .0
 
-    pub revert-added : {t : Bytes} → e .state ≡ Added → t ≡ put empty → t ≡ put (revertedOf h k (entryIn copy k))
-    revert-added q w = reverts q w refl
+    pub deleted-base : {b : ℕ} → e .state ≡ Deleted b → Base h b k
+    deleted-base q = subst (FitsAt h k) (as-read r q) (kept store copy v F .fits k)
 
-    pub revert-copied : {t : Bytes} {s : Source} → e .state ≡ Copied s → t ≡ put empty → t ≡ put (revertedOf h k (entryIn copy k))
-    revert-copied q w = reverts q w refl
+    pub revert-stays : e .state ≡ Empty → copy ≡ put k (revertedOf h k (entryIn copy k))
+    revert-stays q = same-entry store copy v F k (ap (revertedOf h k) (as-read r q) ∙ sym (as-read r q))
 
-    module _ {b : ℕ} (q : e .state ≡ Normal b) where
-      pub base-normal : Base h b k
-      base-normal = subst (FitsAt h k) (as-read r q) (kept store copy v F .fits k) .0
-
-      pub normal-takable : {f : Found} → f ≡ foundIn store b k → k < 32 → Takable store copy k b (f .block)
-      normal-takable z g = base-takable base-normal z g
-
-      pub revert-normal : {f : Found} {t : Bytes} → f ≡ foundIn store b k → t ≡ put (normal b (bytesAt (storeBlocks store) (f .block))) → t ≡ put (revertedOf h k (entryIn copy k))
-      revert-normal z w = reverts q w (sym (base-taken base-normal z))
-
-    module _ {b : ℕ} (q : e .state ≡ Deleted b) where
-      pub base-deleted : Base h b k
-      base-deleted = subst (FitsAt h k) (as-read r q) (kept store copy v F .fits k)
-
-      pub deleted-takable : {f : Found} → f ≡ foundIn store b k → k < 32 → Takable store copy k b (f .block)
-      deleted-takable z g = base-takable base-deleted z g
-
-      pub revert-deleted : {f : Found} {t : Bytes} → f ≡ foundIn store b k → t ≡ put (normal b (bytesAt (storeBlocks store) (f .block))) → t ≡ put (revertedOf h k (entryIn copy k))
-      revert-deleted z w = reverts q w (sym (base-taken base-deleted z))
+    -- what is put where the state is s
+    pub reverts : {s : State} {t : Bytes} → e .state ≡ s → t ≡ put k (revertedOf h k (entryAs s (bytesIn e (blockAt copy (k + 1))))) → t ≡ put k (revertedOf h k (entryIn copy k))
+    reverts q w = w ∙ ap (put k) (sym (ap (revertedOf h k) (as-read r q)))
 
   -- ---- update
 
-  pub update-keeps : (R : ℕ) → R ≤ v .last → FitsAt h k (updatedOf h R k (entryIn copy k))
-  update-keeps R le = fits-updated h R k (entryIn copy k) (kept store copy v F .sound) (omega (arith, F .viewed .opened .last)) (kept store copy v F .fits k)
+  pub update-keeps : (k R : ℕ) → R ≤ v .last → FitsAt h k (updatedOf h R k (entryIn copy k))
+  update-keeps k R le = fits-updated h R k (entryIn copy k) (kept store copy v F .sound) (omega (arith, F .viewed .opened .last)) (kept store copy v F .fits k)
 
-  module _ (R : ℕ) {u : Update} (U : UpdateIs store copy R k u) where
-    pub conflict-as : {w : Update} → u ≡ w → lacking (updatedAs w store R (entryIn copy k)) ≡ conflicting store copy R k
-    conflict-as q = ap (λ (w : Update). lacking (updatedAs w store R (entryIn copy k))) (sym q) ∙ ap lacking (U .means)
-
+  module _ {k R : ℕ} {u : Update} (U : UpdateIs store copy R k u) where
     left : {w : Update} → u ≡ w → orElse (updatedAs w store R (entryIn copy k)) (entryIn copy k) ≡ updatedOf h R k (entryIn copy k)
     left q =
         ap (λ (w : Update). orElse (updatedAs w store R (entryIn copy k)) (entryIn copy k)) (sym q)
         ∙ ap (λ (o : Option Entry). orElse o (entryIn copy k)) (U .means)
 
-    pub update-conflict : u ≡ Conflict → copy ≡ put (updatedOf h R k (entryIn copy k))
+    pub update-conflict : u ≡ Conflict → copy ≡ put k (updatedOf h R k (entryIn copy k))
     update-conflict q = same-entry store copy v F k (sym (left q))
 
-    pub update-stays : u ≡ Stay → copy ≡ put (updatedOf h R k (entryIn copy k))
+    pub update-stays : u ≡ Stay → copy ≡ put k (updatedOf h R k (entryIn copy k))
     update-stays q = same-entry store copy v F k (sym (left q))
 
-    pub update-clears : {t : Bytes} → u ≡ Clear → t ≡ put empty → t ≡ put (updatedOf h R k (entryIn copy k))
-    update-clears q w = w ∙ ap put (left q)
+    -- what is put where the way is w
+    pub updates : {w : Update} {t : Bytes} → u ≡ w → t ≡ put k (orElse (updatedAs w store R (entryIn copy k)) (entryIn copy k)) → t ≡ put k (updatedOf h R k (entryIn copy k))
+    updates q x = x ∙ ap (put k) (left q)
 
-    pub update-takes : {t : Bytes} {p : ℕ} → u ≡ Take p → t ≡ put (normal R (bytesAt (storeBlocks store) p)) → t ≡ put (updatedOf h R k (entryIn copy k))
-    update-takes q w = w ∙ ap put (left q)
+    pub update-takable : {p : ℕ} → R ≤ v .last → k < 32 → u ≡ Take p → Takable store copy k R p
+    update-takable le g q = takable g (subst (Stands store) q (U .stands)) (subst (FitsAt h k) (sym (left q)) (update-keeps k R le))
 
-    module _ (le : R ≤ v .last) where
-      pub update-takable : {p : ℕ} → k < 32 → u ≡ Take p → Takable store copy k R p
-      update-takable g q = takable g (subst (Stands store) q (U .stands)) (subst (FitsAt h k) (sym (left q)) (update-keeps R le))
+    module _ (q : u ≡ Rebase) {e : TheEntry} (r : Reading copy k e) {s : State} (z : s ≡ rebasedState R (e .state)) where
+      abbrev own : Bytes
+      own = bytesIn e (blockAt copy (k + 1))
 
-      module _ (q : u ≡ Rebase) {e : TheEntry} (r : Reading copy k e) {s : State} (z : s ≡ rebasedState R (e .state)) where
-        abbrev own : Bytes
-        own = bytesIn e (blockAt copy (k + 1))
+      rebase-is : entryAs s own ≡ updatedOf h R k (entryIn copy k)
+      rebase-is = ap (λ (s : State). entryAs s own) z ∙ rebased-as (e .state) own ∙ ap (rebased R) (r .means) ∙ left q
+        where
+          rebased-as : (s : State) (x : Bytes) → entryAs (rebasedState R s) x ≡ rebased R (entryAs s x)
+          rebased-as Empty x = refl
+          rebased-as (Normal b) x = refl
+          rebased-as Added x = refl
+          rebased-as (Deleted b) x = refl
+          rebased-as (Copied s) x = refl
 
-        rebase-is : entryAs s own ≡ updatedOf h R k (entryIn copy k)
-        rebase-is = ap (λ (s : State). entryAs s own) z ∙ rebased-as (e .state) own ∙ ap (rebased R) (r .means) ∙ left q
-          where
-            rebased-as : (s : State) (x : Bytes) → entryAs (rebasedState R s) x ≡ rebased R (entryAs s x)
-            rebased-as Empty x = refl
-            rebased-as (Normal b) x = refl
-            rebased-as Added x = refl
-            rebased-as (Deleted b) x = refl
-            rebased-as (Copied s) x = refl
+      pub update-rebases : {t : Bytes} → t ≡ put k (entryAs s own) → t ≡ put k (updatedOf h R k (entryIn copy k))
+      update-rebases w = w ∙ ap (put k) rebase-is
 
-        pub update-rebases : {t : Bytes} → t ≡ put (entryAs s own) → t ≡ put (updatedOf h R k (entryIn copy k))
-        update-rebases w = w ∙ ap put rebase-is
+      pub rebase-put : R ≤ v .last → k < 32 → PutOk copy k (record { state = s; len = e .len }) own
+      rebase-put le g = record {
+        copy = F .viewed .accepted;
+        inside = g;
+        fit = record {
+          whole = r .whole;
+          carries = subst (λ (s : State). Carries s (e .len)) (sym z) (carried (e .state) (e .len) (r .carries));
+          fits = fits-limits store copy v F k (entryAs s own) (subst (FitsAt h k) (sym rebase-is) (update-keeps k R le));
+        };
+      }
+        where
+          carried : (s : State) (n : ℕ) → Carries s n → Carries (rebasedState R s) n
+          carried Empty n c = c
+          carried (Normal b) n c = c
+          carried Added n c = c
+          carried (Deleted b) n c = c
+          carried (Copied s) n c = c
 
-        pub rebase-put : k < 32 → PutOk copy k (record { state = s; len = e .len }) own
-        rebase-put g = record {
-          copy = F .viewed .accepted;
-          inside = g;
-          fit = record {
-            whole = r .whole;
-            carries = subst (λ (s : State). Carries s (e .len)) (sym z) (carried (e .state) (e .len) (r .carries));
-            fits = fits-limits store copy v F k (entryAs s own) (subst (FitsAt h k) (sym rebase-is) (update-keeps R le));
-          };
-        }
-          where
-            carried : (s : State) (n : ℕ) → Carries s n → Carries (rebasedState R s) n
-            carried Empty n c = c
-            carried (Normal b) n c = c
-            carried Added n c = c
-            carried (Deleted b) n c = c
-            carried (Copied s) n c = c
+-- whether update makes nothing of an entry
+pub conflict-as : {store copy : Bytes} {k R : ℕ} {u w : Update} → UpdateIs store copy R k u → u ≡ w → lacking (updatedAs w store R (entryIn copy k)) ≡ conflicting store copy R k
+conflict-as {store} {copy} {k} {R} U q = ap (λ (w : Update). lacking (updatedAs w store R (entryIn copy k))) (sym q) ∙ ap lacking (U .means)

@@ -58,7 +58,7 @@ module _ {store : Bytes} {v : View} {f : ℕ → Entry → Entry} {mask : ℕ} {
 
 -- ---- a conflict among the chosen entries
 
-module _ (store copy : Bytes) (v : View) (F : Fitting store copy v) (R : ℕ) where
+module _ {store copy : Bytes} {v : View} (F : Fitting store copy v) (R : ℕ) where
   abbrev conflictAt : ℕ → Entry → Bool
   conflictAt i e = conflict (storeHistory store) R i e
 

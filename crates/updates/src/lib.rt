@@ -12,7 +12,9 @@ ghost use Rattle.entries.specs.View.{Fitting, entryIn};
 ghost use Rattle.model.specs.Blocks.{bytesAt};
 ghost use Rattle.model.specs.Calls.{sideIn};
 ghost use Rattle.model.specs.Entry.{empty, normal};
-ghost use Rattle.model.specs.Machine.{Revert, reverted, revertedOf, updated};
+ghost use Rattle.model.specs.History.{sheet};
+ghost use Rattle.model.specs.Invariant.{Base};
+ghost use Rattle.model.specs.Machine.{Revert, asIn, reverted, revertedOf, updated};
 ghost use Rattle.model.specs.Machine.{Update as UpdateCall};
 ghost use Rattle.model.specs.Refusals.{someConflict};
 ghost use Rattle.model.specs.Store.{storeBlocks, storeHistory};
@@ -67,6 +69,16 @@ fn rebased(s: State, r: u32) -> State
 
 // ---- revert
 
+// Entry k becomes normal with base r and tree r's bytes, which are there.
+fn take_sheet(store: &[u8], copy: &mut [u8], v: View, r: u32, k: usize)
+    requires { ⌜ Fitting (now store) (now copy) v × (k < 32) × Base (storeHistory (now store)) r k ⌝ }
+    ensures { λ _. ⌜ now (copy .exit) ≡ copyBytes (seatOf (now (copy .entry))) (set (entriesOf (now (copy .entry))) k (asIn r (sheet (storeHistory (now (store .entry))) r k))) ⌝ }
+{
+    let at = r as usize;
+    let f = search::look_up(store, v.n, v.used, at, k);
+    take_block(store, copy, k, r, f.block);
+}
+
 // Entry k goes back to its base.
 fn revert_one(store: &[u8], copy: &mut [u8], v: View, k: usize)
     requires { ⌜ Fitting (now store) (now copy) v × (k < 32) ⌝ }
@@ -76,17 +88,9 @@ fn revert_one(store: &[u8], copy: &mut [u8], v: View, k: usize)
     let state = e.state;
     match state {
         State::Empty => {}
-        State::Normal(base) => {
-            let at = base as usize;
-            let f = search::look_up(store, v.n, v.used, at, k);
-            take_block(store, copy, k, base, f.block);
-        }
+        State::Normal(base) => take_sheet(store, copy, v, base, k),
         State::Added => clear(copy, k),
-        State::Deleted(base) => {
-            let at = base as usize;
-            let f = search::look_up(store, v.n, v.used, at, k);
-            take_block(store, copy, k, base, f.block);
-        }
+        State::Deleted(base) => take_sheet(store, copy, v, base, k),
         State::Copied(_) => clear(copy, k),
     }
 }

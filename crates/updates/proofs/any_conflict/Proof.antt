@@ -14,9 +14,6 @@ use borrow.Author.Needs.{needs}
 use native.Mathlib.Omega.{arith}
 use Rattle.updates.proofs.any_conflict.Statement.{statement}
 use Rattle.updates.proofs.any_conflict.Tie as tie
-use Rattle.updates.proofs.any_conflict.Reads as reads
-use Rattle.updates.proofs.any_conflict.Lts as lts
-use Rattle.updates.proofs.conflicts.Reads as conflicts-reads
 
 abbrev Inv-loop : tie.InvT-loop
 Inv-loop store copy v mask r m₀ m = (m < 2 ^ 32) × (anyChosen (conflict (storeHistory store) r) m (entriesOf copy) ≡ someConflict (sideIn store copy) mask r)
@@ -40,8 +37,7 @@ returns : tie.Need-returns Inv-loop μ-loop
 returns c =
     let l = low (c .before .before) in
     let k = c .before .before .before .before .before .before in
-    let a = k .args in
-    conflict-here (a .store .now) (a .copy .now) (a .v) (k .pre .0) (a .r) (l .1) (l .0) (c .before .conflicts .ensures) (c .if1 .taken) ∙ c .before .before .before .loop .inv .1
+    conflict-here (k .pre .0) (k .args .r) (l .1) (l .0) (c .before .conflicts .ensures) (c .if1 .taken) ∙ c .before .before .before .loop .inv .1
 
 sub-m : tie.Need-sub-m Inv-loop μ-loop
 sub-m c = omega arith
@@ -53,15 +49,13 @@ loop-again : tie.Need-loop-again Inv-loop μ-loop
 loop-again c =
     let l = low (c .before .before) in
     let k = c .before .before .before .before .before .before in
-    let a = k .args in
     rw (and-cleared (l .1))
-    (omega (arith, cleared-lt (l .1), c .before .before .before .loop .inv .0), conflict-next (a .store .now) (a .copy .now) (a .v) (k .pre .0) (a .r) (l .1) (l .0) (c .before .conflicts .ensures) (c .if1 .left) ∙ c .before .before .before .loop .inv .1)
+    (omega (arith, cleared-lt (l .1), c .before .before .before .loop .inv .0), conflict-next (k .pre .0) (k .args .r) (l .1) (l .0) (c .before .conflicts .ensures) (c .if1 .left) ∙ c .before .before .before .loop .inv .1)
 
 returns-2 : tie.Need-returns-2 Inv-loop μ-loop
 returns-2 c =
     let k = c .before .before .before .before in
-    let a = k .args in
-    conflict-none (a .store .now) (a .copy .now) (a .v) (k .pre .0) (a .r) (omega arith) ∙ c .before .loop .inv .1
+    conflict-none (k .pre .0) (k .args .r) (omega arith) ∙ c .before .loop .inv .1
 
 pub any-conflict-spec : {M : Type 1} → statement M
 any-conflict-spec =

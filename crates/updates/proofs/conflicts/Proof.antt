@@ -5,9 +5,6 @@ use native.Mathlib.Omega.{arith}
 use borrow.Author.Needs.{needs}
 use Rattle.updates.proofs.conflicts.Statement.{statement}
 use Rattle.updates.proofs.conflicts.Tie as tie
-use Rattle.updates.proofs.conflicts.Reads as reads
-use Rattle.updates.proofs.conflicts.Lts as lts
-use Rattle.entries.proofs.update_of.Reads as update-of-reads
 
 update-of-requires : tie.Need-update-of-requires
 update-of-requires c κs = search needs
@@ -28,19 +25,19 @@ enum-told-5 : tie.Need-enum-told-5
 enum-told-5 c = search needs
 
 returns : tie.Need-returns
-returns c = let k = c .before .before .before .before .before in let a = k .args in conflict-as (a .store .now) (a .copy .now) (a .v) (k .pre .0) (a .k) (a .r) (c .before .before .update-of .ensures) (c .enum-told .given .1)
+returns c = conflict-as (c .before .before .update-of .ensures) (c .enum-told .given .1)
 
 returns-2 : tie.Need-returns-2
-returns-2 c = let k = c .before .before .before .before .before in let a = k .args in conflict-as (a .store .now) (a .copy .now) (a .v) (k .pre .0) (a .k) (a .r) (c .before .before .update-of .ensures) (c .enum-told2 .given .1)
+returns-2 c = conflict-as (c .before .before .update-of .ensures) (c .enum-told2 .given .1)
 
 returns-3 : tie.Need-returns-3
-returns-3 c = let k = c .before .before .before .before .before in let a = k .args in conflict-as (a .store .now) (a .copy .now) (a .v) (k .pre .0) (a .k) (a .r) (c .before .before .update-of .ensures) (c .enum-told3 .given .1)
+returns-3 c = conflict-as (c .before .before .update-of .ensures) (c .enum-told3 .given .1)
 
 returns-4 : tie.Need-returns-4
-returns-4 c = let k = c .before .before .before .before .before in let a = k .args in conflict-as (a .store .now) (a .copy .now) (a .v) (k .pre .0) (a .k) (a .r) (c .before .before .update-of .ensures) (c .enum-told4 .given .1)
+returns-4 c = conflict-as (c .before .before .update-of .ensures) (c .enum-told4 .given .1)
 
 returns-5 : tie.Need-returns-5
-returns-5 c = let k = c .before .before .before .before .before in let a = k .args in conflict-as (a .store .now) (a .copy .now) (a .v) (k .pre .0) (a .k) (a .r) (c .before .before .update-of .ensures) (c .enum-told5 .given .1)
+returns-5 c = conflict-as (c .before .before .update-of .ensures) (c .enum-told5 .given .1)
 
 pub conflicts-spec : {M : Type 1} → statement M
 conflicts-spec =

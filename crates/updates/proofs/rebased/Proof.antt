@@ -6,8 +6,6 @@ use native.Mathlib.Omega.{arith}
 use borrow.Author.Needs.{needs}
 use Rattle.updates.proofs.rebased.Statement.{statement}
 use Rattle.updates.proofs.rebased.Tie as tie
-use Rattle.updates.proofs.rebased.Reads as reads
-use Rattle.updates.proofs.rebased.Lts as lts
 
 enum-told : tie.Need-enum-told
 enum-told c = search needs

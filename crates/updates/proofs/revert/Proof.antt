@@ -5,9 +5,6 @@ use native.Mathlib.Omega.{arith}
 use borrow.Author.Needs.{needs}
 use Rattle.updates.proofs.revert.Statement.{statement}
 use Rattle.updates.proofs.revert.Tie as tie
-use Rattle.updates.proofs.revert.Reads as reads
-use Rattle.updates.proofs.revert.Lts as lts
-use Rattle.updates.proofs.revert_all.Reads as revert-all-reads
 
 returns : tie.Need-returns
 returns c = let a = c .before .before .before .args in revert-none (a .store .now) (a .copy .now) (a .mask) (c .if1 .taken)

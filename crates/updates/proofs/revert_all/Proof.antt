@@ -13,9 +13,6 @@ use borrow.Author.Needs.{needs}
 use native.Mathlib.Omega.{arith}
 use Rattle.updates.proofs.revert_all.Statement.{statement}
 use Rattle.updates.proofs.revert_all.Tie as tie
-use Rattle.updates.proofs.revert_all.Reads as reads
-use Rattle.updates.proofs.revert_all.Lts as lts
-use Rattle.updates.proofs.revert_one.Reads as revert-one-reads
 
 abbrev Inv-loop : tie.InvT-loop
 Inv-loop store copy₀ v mask m₀ copy m = Doing store v (revertedOf (storeHistory store)) mask copy₀ copy m
@@ -44,9 +41,8 @@ loop-less c = let l = low (c .before .before .before .before) in rw (and-cleared
 loop-again : tie.Need-loop-again Inv-loop μ-loop
 loop-again c =
     let l = low (c .before .before .before .before) in
-    let a = c .before .before .before .before .before .before .before .before .args in
     let d = c .before .before .before .before .before .loop in
-    rw (and-cleared (l .1)) (doing-next (d .inv) (l .1) (l .0) (revert-keeps (a .store .now) (d .copy) (a .v) (d .inv .fitting) (trailingZeros 32 (d .m))) (c .before .before .revert-one .ensures))
+    rw (and-cleared (l .1)) (doing-next (d .inv) (l .1) (l .0) (revert-keeps (d .inv .fitting) (trailingZeros 32 (d .m))) (c .before .before .revert-one .ensures))
 
 same-length : tie.Need-same-length Inv-loop μ-loop
 same-length c = doing-length (c .before .loop .inv) (c .before .before .before .before .pre)

@@ -5,10 +5,6 @@ use native.Mathlib.Omega.{arith}
 use borrow.Author.Needs.{needs}
 use Rattle.updates.proofs.take_block.Statement.{statement}
 use Rattle.updates.proofs.take_block.Tie as tie
-use Rattle.updates.proofs.take_block.Reads as reads
-use Rattle.updates.proofs.take_block.Lts as lts
-use Rattle.search.proofs.span_at.Reads as span-at-reads
-use Rattle.workcopy.proofs.put_entry.Reads as put-entry-reads
 
 span-at-requires : tie.Need-span-at-requires
 span-at-requires c κs = search needs

@@ -5,16 +5,12 @@ use native.Mathlib.Omega.{arith}
 use borrow.Author.Needs.{needs}
 use Rattle.updates.proofs.update.Statement.{statement}
 use Rattle.updates.proofs.update.Tie as tie
-use Rattle.updates.proofs.update.Reads as reads
-use Rattle.updates.proofs.update.Lts as lts
-use Rattle.updates.proofs.any_conflict.Reads as any-conflict-reads
-use Rattle.updates.proofs.update_all.Reads as update-all-reads
 
 returns : tie.Need-returns
 returns c = let a = c .before .before .before .args in update-none (a .store .now) (a .copy .now) (a .mask) (a .revision) (c .if1 .taken)
 
 returns-2 : tie.Need-returns-2
-returns-2 c = let k = c .before .before .before .before .before in let a = k .args in update-late (a .store .now) (a .copy .now) (a .mask) (c .before .before .if1 .left) (a .v) (k .pre) (a .revision) (c .if2 .taken)
+returns-2 c = let k = c .before .before .before .before .before in let a = k .args in update-late (a .store .now) (a .copy .now) (a .mask) (c .before .before .if1 .left) (k .pre) (a .revision) (c .if2 .taken)
 
 any-conflict-requires : tie.Need-any-conflict-requires
 any-conflict-requires c κs = search needs
@@ -26,7 +22,7 @@ returns-3 : tie.Need-returns-3
 returns-3 c =
     let k = c .before .before .before .before .before .before .before .before in
     let a = k .args in
-    update-refused (a .store .now) (a .copy .now) (a .mask) (c .before .before .before .before .before .if1 .left) (a .v) (k .pre) (a .revision) (c .before .before .before .if2 .left) (c .before .any-conflict .ensures) (c .if3 .taken)
+    update-refused (a .store .now) (a .copy .now) (a .mask) (c .before .before .before .before .before .if1 .left) (k .pre) (a .revision) (c .before .before .before .if2 .left) (c .before .any-conflict .ensures) (c .if3 .taken)
 
 update-all-requires : tie.Need-update-all-requires
 update-all-requires c κs = search needs
@@ -38,7 +34,7 @@ returns-4 : tie.Need-returns-4
 returns-4 c =
     let k = c .before .before .before .before .before .before .before .before .before .before .before .before in
     let a = k .args in
-    update-done (a .store .now) (a .copy .now) (a .mask) (c .before .before .before .before .before .before .before .before .before .if1 .left) (a .v) (k .pre) (a .revision) (c .before .before .before .before .before .before .before .if2 .left) (c .before .before .before .before .before .any-conflict .ensures) (c .before .before .before .before .if3 .left) (c .before .before .update-all .ensures)
+    update-done (a .store .now) (a .copy .now) (a .mask) (c .before .before .before .before .before .before .before .before .before .if1 .left) (k .pre) (a .revision) (c .before .before .before .before .before .before .before .if2 .left) (c .before .before .before .before .before .any-conflict .ensures) (c .before .before .before .before .if3 .left) (c .before .before .update-all .ensures)
 
 pub update-spec : {M : Type 1} → statement M
 update-spec =

@@ -13,9 +13,6 @@ use borrow.Author.Needs.{needs}
 use native.Mathlib.Omega.{arith}
 use Rattle.updates.proofs.update_all.Statement.{statement}
 use Rattle.updates.proofs.update_all.Tie as tie
-use Rattle.updates.proofs.update_all.Reads as reads
-use Rattle.updates.proofs.update_all.Lts as lts
-use Rattle.updates.proofs.update_one.Reads as update-one-reads
 
 abbrev Inv-loop : tie.InvT-loop
 Inv-loop store copy₀ v mask r m₀ copy m = Doing store v (updatedOf (storeHistory store) r) mask copy₀ copy m
@@ -45,9 +42,8 @@ loop-again : tie.Need-loop-again Inv-loop μ-loop
 loop-again c =
     let l = low (c .before .before .before .before) in
     let k = c .before .before .before .before .before .before .before .before in
-    let a = k .args in
     let d = c .before .before .before .before .before .loop in
-    rw (and-cleared (l .1)) (doing-next (d .inv) (l .1) (l .0) (update-keeps (a .store .now) (d .copy) (a .v) (d .inv .fitting) (trailingZeros 32 (d .m)) (a .r) (k .pre .1)) (c .before .before .update-one .ensures))
+    rw (and-cleared (l .1)) (doing-next (d .inv) (l .1) (l .0) (update-keeps (d .inv .fitting) (trailingZeros 32 (d .m)) (k .args .r) (k .pre .1)) (c .before .before .update-one .ensures))
 
 same-length : tie.Need-same-length Inv-loop μ-loop
 same-length c = doing-length (c .before .loop .inv) (c .before .before .before .before .pre .0)

@@ -1,18 +1,10 @@
 -- Assumes nothing.
 -- `updates::update_one` meets its contract, one law for each way of an update.
-use Rattle.updates.proofs.Entering.{rebase-put, update-clears, update-conflict, update-rebases, update-stays, update-takable, update-takes}
+use Rattle.updates.proofs.Entering.{rebase-put, update-conflict, update-rebases, update-stays, update-takable, updates}
 use native.Mathlib.Omega.{arith}
 use borrow.Author.Needs.{needs}
 use Rattle.updates.proofs.update_one.Statement.{statement}
 use Rattle.updates.proofs.update_one.Tie as tie
-use Rattle.updates.proofs.update_one.Reads as reads
-use Rattle.updates.proofs.update_one.Lts as lts
-use Rattle.entries.proofs.update_of.Reads as update-of-reads
-use Rattle.updates.proofs.clear.Reads as clear-reads
-use Rattle.updates.proofs.rebased.Reads as rebased-reads
-use Rattle.updates.proofs.take_block.Reads as take-block-reads
-use Rattle.workcopy.proofs.entry_at.Reads as entry-at-reads
-use Rattle.workcopy.proofs.set_entry.Reads as set-entry-reads
 
 update-of-requires : tie.Need-update-of-requires
 update-of-requires c κs = search needs
@@ -35,8 +27,7 @@ enum-known-u c = search needs
 take-block-requires : tie.Need-take-block-requires
 take-block-requires c κs =
     let k = c .before .before .before .before .before .before .before .before in
-    let a = k .args in
-    update-takable (a .store .now) (a .copy .now) (a .v) (k .pre .0) (a .k) (a .r) (c .before .before .before .before .update-of .ensures) (k .pre .2) (k .pre .1) (c .before .before .u .given .1)
+    update-takable (k .pre .0) (c .before .before .before .before .update-of .ensures) (k .pre .2) (k .pre .1) (c .before .before .u .given .1)
 
 enum-told-4 : tie.Need-enum-told-4
 enum-told-4 c = search needs
@@ -50,8 +41,7 @@ rebased-requires c κs = search needs
 set-entry-requires : tie.Need-set-entry-requires
 set-entry-requires c κs =
     let k = c .before .before .before .before .before .before .before .before .before .before in
-    let a = k .args in
-    rebase-put (a .store .now) (a .copy .now) (a .v) (k .pre .0) (a .k) (a .r) (c .before .before .before .before .before .before .update-of .ensures) (k .pre .2) (c .before .before .before .before .enum-told4 .given .1) (c .before .before .entry-at .ensures) (c .before .rebased .ensures) (k .pre .1)
+    rebase-put (k .pre .0) (c .before .before .before .before .before .before .update-of .ensures) (c .before .before .before .before .enum-told4 .given .1) (c .before .before .entry-at .ensures) (c .before .rebased .ensures) (k .pre .2) (k .pre .1)
 
 same-length : tie.Need-same-length
 same-length c = search needs
@@ -59,8 +49,7 @@ same-length c = search needs
 returns : tie.Need-returns
 returns c =
     let k = c .before .before .before .before .before .before in
-    let a = k .args in
-    update-conflict (a .store .now) (a .copy .now) (a .v) (k .pre .0) (a .k) (a .r) (c .before .before .update-of .ensures) (c .enum-told .given .1)
+    update-conflict (k .pre .0) (c .before .before .update-of .ensures) (c .enum-told .given .1)
 
 same-length-2 : tie.Need-same-length-2
 same-length-2 c = search needs
@@ -68,8 +57,7 @@ same-length-2 c = search needs
 returns-2 : tie.Need-returns-2
 returns-2 c =
     let k = c .before .before .before .before .before .before in
-    let a = k .args in
-    update-stays (a .store .now) (a .copy .now) (a .v) (k .pre .0) (a .k) (a .r) (c .before .before .update-of .ensures) (c .enum-told2 .given .1)
+    update-stays (k .pre .0) (c .before .before .update-of .ensures) (c .enum-told2 .given .1)
 
 same-length-3 : tie.Need-same-length-3
 same-length-3 c = search needs
@@ -77,8 +65,7 @@ same-length-3 c = search needs
 returns-3 : tie.Need-returns-3
 returns-3 c =
     let k = c .before .before .before .before .before .before .before .before .before .before in
-    let a = k .args in
-    update-clears (a .store .now) (a .copy .now) (a .v) (k .pre .0) (a .k) (a .r) (c .before .before .before .before .before .before .update-of .ensures) (c .before .before .before .before .enum-told3 .given .1) (c .before .before .clear .ensures)
+    updates (k .pre .0) (c .before .before .before .before .before .before .update-of .ensures) (c .before .before .before .before .enum-told3 .given .1) (c .before .before .clear .ensures)
 
 same-length-4 : tie.Need-same-length-4
 same-length-4 c = search needs
@@ -86,8 +73,7 @@ same-length-4 c = search needs
 returns-4 : tie.Need-returns-4
 returns-4 c =
     let k = c .before .before .before .before .before .before .before .before .before .before .before in
-    let a = k .args in
-    update-takes (a .store .now) (a .copy .now) (a .v) (k .pre .0) (a .k) (a .r) (c .before .before .before .before .before .before .before .update-of .ensures) (c .before .before .before .before .before .u .given .1) (c .before .before .take-block .ensures)
+    updates (k .pre .0) (c .before .before .before .before .before .before .before .update-of .ensures) (c .before .before .before .before .before .u .given .1) (c .before .before .take-block .ensures)
 
 same-length-5 : tie.Need-same-length-5
 same-length-5 c = search needs
@@ -95,8 +81,7 @@ same-length-5 c = search needs
 returns-5 : tie.Need-returns-5
 returns-5 c =
     let k = c .before .before .before .before .before .before .before .before .before .before .before .before .before in
-    let a = k .args in
-    update-rebases (a .store .now) (a .copy .now) (a .v) (k .pre .0) (a .k) (a .r) (c .before .before .before .before .before .before .before .before .before .update-of .ensures) (k .pre .2) (c .before .before .before .before .before .before .before .enum-told4 .given .1) (c .before .before .before .before .before .entry-at .ensures) (c .before .before .before .before .rebased .ensures) (c .before .before .set-entry .ensures)
+    update-rebases (k .pre .0) (c .before .before .before .before .before .before .before .before .before .update-of .ensures) (c .before .before .before .before .before .before .before .enum-told4 .given .1) (c .before .before .before .before .before .entry-at .ensures) (c .before .before .before .before .rebased .ensures) (c .before .before .set-entry .ensures)
 
 pub update-one-spec : {M : Type 1} → statement M
 update-one-spec =
