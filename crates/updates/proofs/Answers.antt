@@ -8,8 +8,7 @@ use native.Mathlib.Omega.{arith}
 use borrow.Author.Tests.{eq-eqb, le-ltb, lt-ltb, ne-eqb}
 use Rattle.model.specs.Calls.{changeBy, sideIn}
 use Rattle.model.specs.History.{Bytes, last}
-use Rattle.model.specs.Machine.{Call, Revert, reverted, updated}
-use Rattle.model.specs.Machine.{Update as UpdateCall}
+use Rattle.model.specs.Machine.{Call, Revert, Update as UpdateCall, reverted, updated}
 use Rattle.model.specs.Refusals.{conditions, firstOf, someConflict, tooLate}
 use Rattle.model.specs.Store.{storeHistory}
 use Rattle.model.specs.Types.{numberOf}

@@ -1,9 +1,8 @@
 -- What revert and update put in an entry's place, one law for each way through their code.
 -- Assumes nothing.
 use Prim.Native.Nat.{_*_, _+_, _-_, _<_, _≤_, ℕ}
-use mathlib.Core.Bool.{Bool}
 use mathlib.Core.Logic.{inl, inr}
-use mathlib.Core.Option.{Option, some}
+use mathlib.Core.Option.{Option}
 use mathlib.Core.Path.{_∙_, _≡_, ap, refl, subst, sym}
 use native.Mathlib.Omega.{arith}
 use lib.ListN.{drop, length, set, take}
@@ -11,7 +10,7 @@ use Rattle.block.proofs.Says.{eq-or}
 use Rattle.block.specs.Buffer.{blockAt}
 use Rattle.model.specs.Blocks.{bytesAt}
 use Rattle.model.specs.Calls.{storeConditions}
-use Rattle.model.specs.Entry.{Entry, deleted, empty, normal}
+use Rattle.model.specs.Entry.{Entry, deleted, normal}
 use Rattle.model.specs.History.{Bytes, History, last, present, sheet}
 use Rattle.model.specs.Invariant.{Base, FitsAt}
 use Rattle.model.specs.Machine.{asIn, orElse, revertedOf}
@@ -20,7 +19,6 @@ use Rattle.model.specs.Store.{blockCount, checked, lawful, storeBlocks, storeHi
 use Rattle.model.specs.Types.{entryAs}
 use Rattle.model.specs.WorkCopy.{FitsCopyBlock, copyBytes, entriesOf, entryBlock, seatOf}
 use Rattle.model.specs.declared.Entry.{Entry as TheEntry}
-use Rattle.model.specs.declared.Source.{Source}
 use Rattle.model.specs.declared.Span.{Span}
 use Rattle.model.specs.declared.State.{State}
 use Rattle.model.specs.declared.State.the-variants.{Added, Copied, Deleted, Empty, Normal}
@@ -34,7 +32,7 @@ use Rattle.entries.proofs.Looking.{found-inside, found-none, found-some}
 use Rattle.entries.proofs.States.{as-read}
 use Rattle.entries.specs.View.{Fitting, Stands, UpdateIs, entryIn, rebased, updatedAs}
 use Rattle.entries.specs.declared.Update.{Update}
-use Rattle.entries.specs.declared.Update.the-variants.{Clear, Conflict, Rebase, Stay, Take}
+use Rattle.entries.specs.declared.Update.the-variants.{Conflict, Rebase, Stay, Take}
 use Rattle.entries.specs.declared.View.{View}
 use Rattle.search.proofs.Revisions.{passed}
 use Rattle.search.specs.Find.{Accepted, Spanned, foundIn}
@@ -104,9 +102,9 @@ module _ {store copy : Bytes} {v : View} (F : Fitting store copy v) where
     base-taken =
         elim (eq-or (f .block) 0) [
           | inl z ↦
-            let q = ap present (found-none store v (F .viewed .opened) b k near e z) in
-            let w : _≡_ {A = ℕ} 0 1 = cc (q, B .there) in
-            absurd (omega arith)
+              let q = ap present (found-none store v (F .viewed .opened) b k near e z) in
+              let w : _≡_ {A = ℕ} 0 1 = cc (q, B .there) in
+              absurd (omega arith)
           | inr n ↦ ap (asIn b) (found-some store v (F .viewed .opened) b k near e n)
         ]
 

@@ -1,23 +1,23 @@
 -- A copy that fits a store still fits it when entries that fit take the place of others; and with an inner call done on it.
 -- Assumes nothing.
-use Prim.Native.Nat.{_<_, _≤_, ℕ}
-use mathlib.Core.List.{List}
+use Prim.Native.Nat.{_≤_, ℕ}
+use mathlib.Core.List.{List, _++_}
 use mathlib.Core.Option.{Option, none, some}
-use mathlib.Core.Path.{_∙_, _≡_, ap, refl, sym}
+use mathlib.Core.Path.{_∙_, _≡_, ap, refl, subst, sym}
 use native.Mathlib.Omega.{arith}
-use lib.ListN.{length, set}
+use lib.ListN.{set}
 use lib.Seq.{set-getD}
-use Rattle.model.specs.Calls.{changeBy, sideIn}
+use Rattle.model.specs.Calls.{Out, changeBy, changeCall, copyConditions, refusalOf, sideIn, storeConditions}
 use Rattle.model.specs.Entry.{Entry, empty}
 use Rattle.model.specs.Fitting.{fitsStore}
-use Rattle.model.specs.History.{Bytes, History, last}
+use Rattle.model.specs.History.{Bytes, History}
 use Rattle.model.specs.Invariant.{FitsAt}
-use Rattle.model.specs.Machine.{Revert, Side, withEntries}
-use Rattle.model.specs.Machine.{Update as UpdateCall}
+use Rattle.model.specs.Machine.{Call, Revert, Side, Update as UpdateCall, withEntries}
 use Rattle.model.specs.Refusals.{conditions, firstOf}
 use Rattle.model.specs.Store.{storeHistory}
 use Rattle.model.specs.WorkCopy.{FitsCopyBlock, HoldsCopy, copyBytes, entriesOf, entryBlock, seatOf}
 use Rattle.laws.proofs.Accepted.{accepted-kept, accepted-seen}
+use Rattle.laws.proofs.Conditions.{clear, clear-first}
 use Rattle.laws.proofs.Invariant.{KeptSide, kept-doing, kept-entry}
 use Rattle.laws.proofs.Steps.{fits-all, fits-piece, laid-copy}
 use Rattle.laws.proofs.Trees.{used-low}
@@ -63,22 +63,32 @@ module _ (store copy : Bytes) (v : View) (F : Fitting store copy v) where
   pub fitting-entry : (k : ℕ) (e : Entry) → FitsAt h k e → Fitting store (copyBytes (seatOf copy) (set (entriesOf copy) k e)) v
   fitting-entry k e f = fitting-of (set (entriesOf copy) k e) (kept-entry d k e kept f)
 
-  -- after revert and after update, refused or done
-  pub revert-fitting : (mask : ℕ) → Fitting store (innerOut store copy (Revert mask) .copy) v
+  -- a refused call leaves the copy
+  fitting-left : (c : Call) → (firstOf (conditions d c) ≡ none → Fitting store (changeBy none store copy c .copy) v) → {o : Out} → o ≡ innerOut store copy c
+      → Fitting store (o .copy) v
   unfolding innerOut
-  revert-fitting mask = go (firstOf (conditions d (Revert mask))) refl
+  fitting-left c f q = subst (λ (o : Out). Fitting store (o .copy) v) (sym q) (go (firstOf (conditions d c)) refl)
     where
-      go : (o : Option ℕ) → firstOf (conditions d (Revert mask)) ≡ o → Fitting store (changeBy o store copy (Revert mask) .copy) v
+      go : (o : Option ℕ) → firstOf (conditions d c) ≡ o → Fitting store (changeBy o store copy c .copy) v
       go (some n) e = F
-      go none e = fitting-of _ (kept-doing d (Revert mask) e (seats .0) (seats .1) tt kept)
+      go none e = f e
 
-  pub update-fitting : (mask R : ℕ) → Fitting store (innerOut store copy (UpdateCall mask R) .copy) v
-  unfolding innerOut
-  update-fitting mask R = go (firstOf (conditions d (UpdateCall mask R))) refl
-    where
-      go : (o : Option ℕ) → firstOf (conditions d (UpdateCall mask R)) ≡ o → Fitting store (changeBy o store copy (UpdateCall mask R) .copy) v
-      go (some n) e = F
-      go none e = fitting-of _ (kept-doing d (UpdateCall mask R) e (seats .0) (seats .1) tt kept)
+  -- what revert and update leave, refused or done
+  pub revert-fitting : (mask : ℕ) {o : Out} → o ≡ innerOut store copy (Revert mask) → Fitting store (o .copy) v
+  revert-fitting mask q = fitting-left (Revert mask) (λ e. fitting-of _ (kept-doing d (Revert mask) e (seats .0) (seats .1) tt kept)) q
+
+  pub update-fitting : (mask R : ℕ) {o : Out} → o ≡ innerOut store copy (UpdateCall mask R) → Fitting store (o .copy) v
+  update-fitting mask R q = fitting-left (UpdateCall mask R) (λ e. fitting-of _ (kept-doing d (UpdateCall mask R) e (seats .0) (seats .1) tt kept)) q
+
+  -- an inner call is the call on both buffers
+  pub inner-call : (c : Call) → innerOut store copy c ≡ changeCall store copy c
+  unfolding innerOut changeCall refusalOf
+  inner-call c =
+      let A = fitting-accepted store copy v F in
+      let cs = conditions d c in
+      ap (λ (o : Option ℕ). changeBy o store copy c)
+      (sym (clear-first (storeConditions store) (copyConditions store copy ++ cs) (clear (storeConditions store) (A .storeTaken))
+      ∙ clear-first (copyConditions store copy) cs (clear (copyConditions store copy) (A .copyTaken))))
 
   -- the copy is that of its entries, also with one of them put again
   pub same-copy : copy ≡ copyBytes (seatOf copy) (entriesOf copy)

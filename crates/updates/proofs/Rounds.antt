@@ -6,9 +6,6 @@ use mathlib.Core.Bool.{Bool, false, true}
 use mathlib.Core.Path.{_∙_, _≡_, ap, subst, sym}
 use native.Mathlib.Omega.{arith}
 use lib.ListN.{length, set}
-use Rattle.masks.proofs.Bits.{Lowest, cleared-lt}
-use Rattle.masks.proofs.Visits.{any-here, any-next, any-none, anyChosen, rows-still, rows-visit}
-use Rattle.masks.specs.Mask.{atChosen}
 use Rattle.model.specs.Entry.{Entry, empty}
 use Rattle.model.specs.History.{Bytes}
 use Rattle.model.specs.Invariant.{FitsAt}
@@ -18,6 +15,9 @@ use Rattle.model.specs.Store.{storeHistory}
 use Rattle.model.specs.WorkCopy.{copyBytes, entriesOf, seatOf}
 use Rattle.entries.specs.View.{Fitting, entryIn}
 use Rattle.entries.specs.declared.View.{View}
+use Rattle.masks.proofs.Bits.{Lowest, cleared-lt}
+use Rattle.masks.proofs.Visits.{any-here, any-next, any-none, anyChosen, rows-still, rows-visit}
+use Rattle.masks.specs.Mask.{atChosen}
 use Rattle.updates.proofs.Keeping.{fits-limits, fitting-entry, kept, same-copy}
 use Rattle.updates.specs.Inner.{conflicting}
 use Rattle.workcopy.proofs.Entries.{put-entries}

@@ -2,16 +2,15 @@
 -- `updates::any_conflict` meets its contract. The loop's invariant: what is left to look at from here gives the whole. The measure is the mask of what is left.
 use Prim.Native.Nat.{_<_, _^_}
 use mathlib.Core.Path.{_∙_, _≡_, refl}
+use native.Mathlib.Omega.{arith}
 use lib.Count.{trailingZeros}
-use Rattle.masks.proofs.Bits.{Lowest, and-cleared, cleared-lt, lowest}
-use Rattle.masks.proofs.Visits.{anyChosen}
 use Rattle.model.specs.Calls.{sideIn}
 use Rattle.model.specs.Refusals.{conflict, someConflict}
 use Rattle.model.specs.Store.{storeHistory}
 use Rattle.model.specs.WorkCopy.{entriesOf}
+use Rattle.masks.proofs.Bits.{Lowest, and-cleared, cleared-lt, lowest}
+use Rattle.masks.proofs.Visits.{anyChosen}
 use Rattle.updates.proofs.Rounds.{conflict-here, conflict-next, conflict-none}
-use borrow.Author.Needs.{needs}
-use native.Mathlib.Omega.{arith}
 use Rattle.updates.proofs.any_conflict.Statement.{statement}
 use Rattle.updates.proofs.any_conflict.Tie as tie
 

@@ -1,8 +1,7 @@
 -- Assumes nothing.
 -- `updates::conflicts` meets its contract, one answer for each way of an update.
-use Rattle.updates.proofs.Entering.{conflict-as}
-use native.Mathlib.Omega.{arith}
 use borrow.Author.Needs.{needs}
+use Rattle.updates.proofs.Entering.{conflict-as}
 use Rattle.updates.proofs.conflicts.Statement.{statement}
 use Rattle.updates.proofs.conflicts.Tie as tie
 

@@ -1,10 +1,9 @@
 -- Assumes nothing.
 -- `updates::rebased` meets its contract, state by state.
 use mathlib.Core.Path.{ap, sym}
-use Rattle.updates.specs.Inner.{rebasedState}
-use native.Mathlib.Omega.{arith}
 use borrow.Author.Needs.{needs}
 use Rattle.updates.proofs.rebased.Statement.{statement}
+use Rattle.updates.specs.Inner.{rebasedState}
 use Rattle.updates.proofs.rebased.Tie as tie
 
 enum-told : tie.Need-enum-told

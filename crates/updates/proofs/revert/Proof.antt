@@ -1,8 +1,7 @@
 -- Assumes nothing.
 -- `updates::revert` meets its contract, one law for each answer.
-use Rattle.updates.proofs.Answers.{revert-done, revert-none}
-use native.Mathlib.Omega.{arith}
 use borrow.Author.Needs.{needs}
+use Rattle.updates.proofs.Answers.{revert-done, revert-none}
 use Rattle.updates.proofs.revert.Statement.{statement}
 use Rattle.updates.proofs.revert.Tie as tie
 

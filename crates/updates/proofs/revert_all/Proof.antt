@@ -3,14 +3,13 @@
 -- `updates::revert_all` meets its contract. The loop's invariant: what is left to do from here gives the whole, and the copy still fits. The measure is the mask
 use Prim.Native.Nat.{_<_}
 use mathlib.Core.Path.{refl}
+use native.Mathlib.Omega.{arith}
 use lib.Count.{trailingZeros}
-use Rattle.masks.proofs.Bits.{Lowest, and-cleared, cleared-lt, lowest}
 use Rattle.model.specs.Machine.{revertedOf}
 use Rattle.model.specs.Store.{storeHistory}
+use Rattle.masks.proofs.Bits.{Lowest, and-cleared, cleared-lt, lowest}
 use Rattle.updates.proofs.Entering.{revert-keeps}
 use Rattle.updates.proofs.Rounds.{Doing, doing-end, doing-length, doing-next}
-use borrow.Author.Needs.{needs}
-use native.Mathlib.Omega.{arith}
 use Rattle.updates.proofs.revert_all.Statement.{statement}
 use Rattle.updates.proofs.revert_all.Tie as tie
 

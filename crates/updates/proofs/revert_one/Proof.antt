@@ -1,8 +1,7 @@
 -- Assumes nothing.
 -- `updates::revert_one` meets its contract, state by state.
-use Rattle.updates.proofs.Entering.{deleted-base, normal-base, revert-stays, reverts}
-use native.Mathlib.Omega.{arith}
 use borrow.Author.Needs.{needs}
+use Rattle.updates.proofs.Entering.{deleted-base, normal-base, revert-stays, reverts}
 use Rattle.updates.proofs.revert_one.Statement.{statement}
 use Rattle.updates.proofs.revert_one.Tie as tie
 

@@ -1,8 +1,7 @@
 -- Assumes nothing.
 -- `updates::take_block` meets its contract: the block's bytes stand in the store.
-use Rattle.updates.proofs.Entering.{take-leaves, take-put}
-use native.Mathlib.Omega.{arith}
 use borrow.Author.Needs.{needs}
+use Rattle.updates.proofs.Entering.{take-leaves, take-put}
 use Rattle.updates.proofs.take_block.Statement.{statement}
 use Rattle.updates.proofs.take_block.Tie as tie
 

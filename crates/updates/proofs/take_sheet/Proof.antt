@@ -1,8 +1,7 @@
 -- Assumes nothing.
 -- `updates::take_sheet` meets its contract: the block that is found holds the sheet's bytes.
-use Rattle.updates.proofs.Entering.{sheet-takable, sheet-taken}
-use native.Mathlib.Omega.{arith}
 use borrow.Author.Needs.{needs}
+use Rattle.updates.proofs.Entering.{sheet-takable, sheet-taken}
 use Rattle.updates.proofs.take_sheet.Statement.{statement}
 use Rattle.updates.proofs.take_sheet.Tie as tie
 

@@ -1,8 +1,7 @@
 -- Assumes nothing.
 -- `updates::update` meets its contract, one law for each answer.
-use Rattle.updates.proofs.Answers.{update-done, update-late, update-none, update-refused}
-use native.Mathlib.Omega.{arith}
 use borrow.Author.Needs.{needs}
+use Rattle.updates.proofs.Answers.{update-done, update-late, update-none, update-refused}
 use Rattle.updates.proofs.update.Statement.{statement}
 use Rattle.updates.proofs.update.Tie as tie
 

@@ -1,8 +1,7 @@
 -- Assumes nothing.
 -- `updates::update_one` meets its contract, one law for each way of an update.
-use Rattle.updates.proofs.Entering.{rebase-put, update-conflict, update-rebases, update-stays, update-takable, updates}
-use native.Mathlib.Omega.{arith}
 use borrow.Author.Needs.{needs}
+use Rattle.updates.proofs.Entering.{rebase-put, update-conflict, update-rebases, update-stays, update-takable, updates}
 use Rattle.updates.proofs.update_one.Statement.{statement}
 use Rattle.updates.proofs.update_one.Tie as tie
 
