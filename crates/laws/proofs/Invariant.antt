@@ -63,7 +63,7 @@ fits-asIn h R i s le = go (sheet h R i) refl (small-tree h R i s le)
     go none e p = tt
     go (some x) e p = (record { low = positive h R i (ap present e); high = le; there = ap present e }, p)
 
-fits-reverted : (h : History) (i : ℕ) (e : Entry) → Sound h → FitsAt h i e → FitsAt h i (revertedOf h i e)
+pub fits-reverted : (h : History) (i : ℕ) (e : Entry) → Sound h → FitsAt h i e → FitsAt h i (revertedOf h i e)
 fits-reverted h i empty s f = tt
 fits-reverted h i (normal b x) s f = fits-asIn h b i s (f .0 .high)
 fits-reverted h i (added x) s f = tt
@@ -76,7 +76,7 @@ base-moved h R b i s le B e =
     let t : present (sheet h R i) ≡ true = ap present (same-namer h R b i s le (B .high) (eqb-true _ _ e)) ∙ B .there in
     record { low = positive h R i t; high = le; there = t }
 
-fits-updated : (h : History) (R i : ℕ) (e : Entry) → Sound h → R ≤ last h → FitsAt h i e → FitsAt h i (orElse (updatedTo h R i e) e)
+pub fits-updated : (h : History) (R i : ℕ) (e : Entry) → Sound h → R ≤ last h → FitsAt h i e → FitsAt h i (orElse (updatedTo h R i e) e)
 fits-updated h R i empty s le f = fits-asIn h R i s le
 fits-updated h R i (normal b x) s le f =
     cond-any (λ (o : Option Entry). FitsAt h i (orElse o (normal b x))) (modified h i b x)
@@ -138,7 +138,7 @@ pub record KeptSide (d : Side) : Type 0 where
 kept-entries : (d : Side) (es : List Entry) → KeptSide d → length es ≡ length (d .entries) → ((i : ℕ) → FitsAt (d .history) i (getD es i empty)) → KeptSide (withEntries d es)
 kept-entries d es K n q = record { sound = K .sound; fits = q; wide = n ∙ K .wide; used = K .used; room = K .room }
 
-kept-entry : (d : Side) (i : ℕ) (e : Entry) → KeptSide d → FitsAt (d .history) i e → KeptSide (withEntry d i e)
+pub kept-entry : (d : Side) (i : ℕ) (e : Entry) → KeptSide d → FitsAt (d .history) i e → KeptSide (withEntry d i e)
 kept-entry d i e K f =
     kept-entries d (set (d .entries) i e) K (length-set (d .entries) i e)
     (λ j. set-any (FitsAt (d .history) j) (d .entries) i j empty (λ z. rw z f) (K .fits j))

@@ -84,7 +84,7 @@ piece-body (copied s r y) x q f rest =
 
 -- ---- in the store
 
-store-place : (bs : List Block) (p : ℕ) → All FitsBlock bs → take (length (bytesAt bs p)) (drop (512 * p + 16) (joined fieldsOf bs)) ≡ bytesAt bs p
+pub store-place : (bs : List Block) (p : ℕ) → All FitsBlock bs → take (length (bytesAt bs p)) (drop (512 * p + 16) (joined fieldsOf bs)) ≡ bytesAt bs p
 unfolding bytesAt
 store-place bs p a = go (leb (suc p) (length bs)) refl
   where

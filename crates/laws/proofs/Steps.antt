@@ -58,10 +58,10 @@ fits-rows h k (e ∷ es) f =
     let q : some-row (λ i e. not (fitsEntry h i e)) (suc k) es ≡ false = fits-rows h (suc k) es (λ i. let w : k + suc i ≡ suc k + i = omega arith in rw w at (f (suc i))) in
     ap₂ (λ (a b : Bool). not a || b) p q
 
-fits-all : (h : History) (es : List Entry) → ((i : ℕ) → FitsAt h i (getD es i empty)) → fitsStore h es ≡ true
+pub fits-all : (h : History) (es : List Entry) → ((i : ℕ) → FitsAt h i (getD es i empty)) → fitsStore h es ≡ true
 fits-all h es f = ap not (fits-rows h 0 es (λ i. rw zero-add (f i)))
 
-fits-piece : (h : History) (i : ℕ) (e : Entry) → last h < 65_536 → FitsAt h i e → FitsCopyBlock (entryBlock e)
+pub fits-piece : (h : History) (i : ℕ) (e : Entry) → last h < 65_536 → FitsAt h i e → FitsCopyBlock (entryBlock e)
 fits-piece h i empty n f = tt
 fits-piece h i (normal b x) n f = ((f .0 .low, omega (arith, f .0 .high)), (f .1 .size, f .1 .bytes))
 fits-piece h i (added x) n f = (f .size, f .bytes)

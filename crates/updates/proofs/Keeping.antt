@@ -1,0 +1,100 @@
+-- A copy that fits a store still fits it when entries that fit take the place of others; and with an inner call done on it.
+-- Assumes nothing.
+use Prim.Native.Nat.{_≤_, ℕ}
+use mathlib.Core.List.{List, _++_}
+use mathlib.Core.Option.{Option, none, some}
+use mathlib.Core.Path.{_∙_, _≡_, ap, refl, subst, sym}
+use native.Mathlib.Omega.{arith}
+use lib.ListN.{set}
+use lib.Seq.{set-getD}
+use Rattle.model.specs.Calls.{Out, changeBy, changeCall, copyConditions, refusalOf, sideIn, storeConditions}
+use Rattle.model.specs.Entry.{Entry, empty}
+use Rattle.model.specs.Fitting.{fitsStore}
+use Rattle.model.specs.History.{Bytes, History}
+use Rattle.model.specs.Invariant.{FitsAt}
+use Rattle.model.specs.Machine.{Call, Revert, Side, Update as UpdateCall, withEntries}
+use Rattle.model.specs.Refusals.{conditions, firstOf}
+use Rattle.model.specs.Store.{storeHistory}
+use Rattle.model.specs.WorkCopy.{FitsCopyBlock, HoldsCopy, copyBytes, entriesOf, entryBlock, seatOf}
+use Rattle.laws.proofs.Accepted.{accepted-kept, accepted-seen}
+use Rattle.laws.proofs.Conditions.{clear, clear-first}
+use Rattle.laws.proofs.Invariant.{KeptSide, kept-doing, kept-entry}
+use Rattle.laws.proofs.Steps.{fits-all, fits-piece, laid-copy}
+use Rattle.laws.proofs.Trees.{used-low}
+use Rattle.laws.proofs.WorkCopy.{holds-copy}
+use Rattle.entries.proofs.Checking.{fitting-accepted}
+use Rattle.entries.specs.View.{Fitting, entryIn}
+use Rattle.entries.specs.declared.View.{View}
+use Rattle.updates.specs.Inner.{innerOut}
+use Rattle.workcopy.proofs.Entries.{held}
+
+module _ (store copy : Bytes) (v : View) (F : Fitting store copy v) where
+  abbrev d : Side
+  d = sideIn store copy
+
+  abbrev h : History
+  h = storeHistory store
+
+  pub kept : KeptSide d
+  kept = accepted-kept store copy (fitting-accepted store copy v F)
+
+  few : d .blocks ≤ 4_096
+  few = accepted-seen store copy (fitting-accepted store copy v F) .many
+
+  seats : (1 ≤ seatOf copy) × (seatOf copy ≤ 4)
+  unfolding HoldsCopy
+  seats = held copy (F .viewed .accepted) .1
+
+  pub fits-limits : (k : ℕ) (e : Entry) → FitsAt h k e → FitsCopyBlock (entryBlock e)
+  fits-limits k e f = fits-piece h k e (omega (arith, used-low h, kept .used, kept .room, few)) f
+
+  -- with other entries, which fit
+  fitting-of : (es : List Entry) → KeptSide (withEntries d es) → Fitting store (copyBytes (seatOf copy) es) v
+  fitting-of es K =
+      let t = copyBytes (seatOf copy) es in
+      let q = holds-copy t (seatOf copy) es (laid-copy (withEntries d es) K few (seats .0) (seats .1)) in
+      record {
+        viewed = record { opened = F .viewed .opened; accepted = record { size = q .0; ok = q .1 } };
+        fits = ap (fitsStore h) (q .3) ∙ fits-all h es (K .fits);
+        seat = F .seat ∙ sym (q .2);
+      }
+
+  -- THE STATEMENTS: with one other entry, which fits
+  pub fitting-entry : (k : ℕ) (e : Entry) → FitsAt h k e → Fitting store (copyBytes (seatOf copy) (set (entriesOf copy) k e)) v
+  fitting-entry k e f = fitting-of (set (entriesOf copy) k e) (kept-entry d k e kept f)
+
+  -- a refused call leaves the copy
+  fitting-left : (c : Call) → (firstOf (conditions d c) ≡ none → Fitting store (changeBy none store copy c .copy) v) → {o : Out} → o ≡ innerOut store copy c
+      → Fitting store (o .copy) v
+  unfolding innerOut
+  fitting-left c f q = subst (λ (o : Out). Fitting store (o .copy) v) (sym q) (go (firstOf (conditions d c)) refl)
+    where
+      go : (o : Option ℕ) → firstOf (conditions d c) ≡ o → Fitting store (changeBy o store copy c .copy) v
+      go (some n) e = F
+      go none e = f e
+
+  -- what revert and update leave, refused or done
+  pub revert-fitting : (mask : ℕ) {o : Out} → o ≡ innerOut store copy (Revert mask) → Fitting store (o .copy) v
+  revert-fitting mask q = fitting-left (Revert mask) (λ e. fitting-of _ (kept-doing d (Revert mask) e (seats .0) (seats .1) tt kept)) q
+
+  pub update-fitting : (mask R : ℕ) {o : Out} → o ≡ innerOut store copy (UpdateCall mask R) → Fitting store (o .copy) v
+  update-fitting mask R q = fitting-left (UpdateCall mask R) (λ e. fitting-of _ (kept-doing d (UpdateCall mask R) e (seats .0) (seats .1) tt kept)) q
+
+  -- an inner call is the call on both buffers
+  pub inner-call : (c : Call) → innerOut store copy c ≡ changeCall store copy c
+  unfolding innerOut changeCall refusalOf
+  inner-call c =
+      let A = fitting-accepted store copy v F in
+      let cs = conditions d c in
+      ap (λ (o : Option ℕ). changeBy o store copy c)
+      (sym (clear-first (storeConditions store) (copyConditions store copy ++ cs) (clear (storeConditions store) (A .storeTaken))
+      ∙ clear-first (copyConditions store copy) cs (clear (copyConditions store copy) (A .copyTaken))))
+
+  -- the copy is that of its entries, also with one of them put again
+  pub same-copy : copy ≡ copyBytes (seatOf copy) (entriesOf copy)
+  same-copy = sym (holds-copy copy (seatOf copy) (entriesOf copy) (held copy (F .viewed .accepted)) .4)
+
+  pub same-entry : (k : ℕ) {e : Entry} → e ≡ entryIn copy k → copy ≡ copyBytes (seatOf copy) (set (entriesOf copy) k e)
+  same-entry k e =
+      same-copy
+      ∙ ap (copyBytes (seatOf copy)) (sym (ap (set (entriesOf copy) k) e ∙ set-getD (entriesOf copy) k empty))

@@ -1,0 +1,4 @@
+pub mod Answers
+pub mod Entering
+pub mod Keeping
+pub mod Rounds
