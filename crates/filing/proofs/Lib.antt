@@ -1,0 +1,4 @@
+pub mod Looking
+pub mod Noting
+pub mod Settling
+pub mod Answers
