@@ -1,6 +1,6 @@
 -- The answers of commit, one law for each way through its tests. What is out of date is pending, so that refusal 11 may be tested before refusal 10.
 -- Assumes nothing.
-use Prim.Native.Nat.{suc, ℕ}
+use Prim.Native.Nat.{_+_, _<_, suc, ℕ}
 use mathlib.Core.Bool.{Bool, _&&_, _||_, cond, false, not, true}
 use mathlib.Core.List.{List, [], _∷_}
 use mathlib.Core.Option.{Option, none, some}
@@ -13,18 +13,25 @@ use Rattle.model.specs.History.{Bytes, History, change, last, namedAfter, names
 use Rattle.model.specs.Machine.{Commits, Side, chosen, committed}
 use Rattle.model.specs.Refusals.{conditions, firstOf, nothingChosen, outOfDate, someStale}
 use Rattle.model.specs.Rows.{some-row}
+use Rattle.model.specs.Shows.{Accepted}
 use Rattle.model.specs.Store.{storeHistory}
 use Rattle.model.specs.Types.{numberOf}
-use Rattle.model.specs.WorkCopy.{copyBytes, entriesOf, seatOf}
+use Rattle.model.specs.WorkCopy.{HoldsCopy, copyBytes, entriesOf, seatOf}
 use Rattle.model.specs.declared.Answer.the-variants.{Refused, Revision as TheRevision}
 use Rattle.model.specs.declared.Refusal.{Refusal}
 use Rattle.model.specs.declared.Refusal.the-variants.{NoRoom as NoSpace, NothingPending, OutOfDate, Range}
-use Rattle.laws.proofs.Accepted.{both}
+use Rattle.laws.proofs.Accepted.{accepted-kept, accepted-seen, both}
+use Rattle.laws.proofs.Trees.{used-low}
 use Rattle.commits.proofs.Answers.{told-done, told-no-room, told-nothing}
-use Rattle.commits.specs.Outcome.{Answered}
+use Rattle.commits.specs.Outcome.{Answered, Asked, RightFlags}
 use Rattle.commits.specs.declared.Outcome.{Outcome}
 use Rattle.commits.specs.declared.Outcome.the-variants.{Done, NoRoom, Nothing}
-use Rattle.filing.specs.Inner.{innerOut, outAs}
+use Rattle.entries.proofs.Checking.{fitting-accepted}
+use Rattle.entries.specs.View.{Fitting}
+use Rattle.entries.specs.declared.View.{View}
+use Rattle.filing.proofs.Settling.{settled-committed}
+use Rattle.filing.specs.Inner.{Settling, innerOut, outAs, settledRows}
+use Rattle.workcopy.proofs.Entries.{held}
 
 -- a row that passes one test passes another
 some-also : {A : Type 0} (f g : ℕ → A → Bool) (k : ℕ) (l : List A) → ((i : ℕ) (a : A) → f i a ≡ true → g i a ≡ true) → some-row f k l ≡ true → some-row g k l ≡ true
@@ -91,3 +98,39 @@ module _ (store copy : Bytes) (stamp mask : ℕ) where
           let t = told-done store copy store′ stamp mask u (subst (Answered store copy store′ stamp mask) e A) in
           let k : firstOf (conditions d (Commits stamp mask)) ≡ none = rw (ne-eqb mask 0 n, t .0, sym q ∙ z, t .1) in
           (λ i. outAs (TheRevision (r i)) (t .3 i) (w i)) ∙ sym (ap (λ (o : Option ℕ). changeBy o store copy (Commits stamp mask)) k)
+
+-- ---- what the steps ask for
+
+module _ (store copy : Bytes) (v : View) (F : Fitting store copy v) where
+  abbrev taken : Accepted store copy
+  taken = fitting-accepted store copy v F
+
+  last-small : last (storeHistory store) < 4_096
+  last-small = let K = accepted-kept store copy taken in omega (arith, used-low (storeHistory store), K .used, K .room, accepted-seen store copy taken .many)
+
+  pub next-small : v .last + 1 < 65_536
+  next-small = omega (arith, last-small, F .viewed .opened .last)
+
+  pub seat-small : v .seat < 256
+  unfolding HoldsCopy
+  seat-small = omega (arith, F .seat, held copy (F .viewed .accepted) .1 .1)
+
+  pub may-commit : {mask : ℕ} {changed places : List ℕ} → RightFlags store copy mask changed places → Asked store copy (v .used) (v .last + 1) (v .seat) mask changed places
+  may-commit R = record {
+    taken = taken;
+    uses = F .viewed .opened .accepted .inUse;
+    next = omega (arith, F .viewed .opened .last);
+    by = F .seat;
+    right = R;
+  }
+
+  pub may-settle : Settling copy (v .last + 1)
+  may-settle = record { accepted = F .viewed .accepted; low = omega arith; high = next-small }
+
+  pub next-is : v .last + 1 ≡ suc (last (storeHistory store))
+  next-is = omega (arith, F .viewed .opened .last)
+
+  pub left-committed : {mask : ℕ} {changed places : List ℕ} {copy′ : Bytes} → RightFlags store copy mask changed places
+      → copy′ ≡ copyBytes (seatOf copy) (settledRows (v .last + 1) changed mask (entriesOf copy))
+      → copy′ ≡ copyBytes (seatOf copy) (committed (storeHistory store) mask (entriesOf copy))
+  left-committed R w = w ∙ ap (copyBytes (seatOf copy)) (settled-committed store copy (F .viewed .accepted) R next-is)

@@ -19,6 +19,15 @@ use Rattle.commits.specs.Outcome.{RightAt, RightFlags}
 use Rattle.entries.specs.View.{entryIn}
 use Rattle.filing.specs.Inner.{altered, sourceBlock}
 use Rattle.masks.proofs.Bits.{Lowest, chosen-none, chosen-other, cleared-lt}
+use mir.Val.{boolByte}
+
+-- a test as a byte
+pub flag-byte : {a b : Bool} → a ≡ b → boolByte a ≡ cond b 1 0
+flag-byte {b = b} e = ap boolByte e ∙ by b
+  where
+    by : (b : Bool) → boolByte b ≡ cond b 1 0
+    by true = refl
+    by false = refl
 
 flag-so : (b : Bool) {n : ℕ} → n ≡ cond (not b) 1 0 → b ≡ eqb n 0
 flag-so true q = rw q
@@ -33,7 +42,7 @@ module _ (store : Bytes) (i : ℕ) where
   right-at (deleted b) q w = tt
   right-at (copied s r x) {n} q w = (flag-so (isBytes x (sheet (storeHistory store) r s)) q, w)
 
--- f is the flag of sheets, and p their places: right for the chosen ones that are not left in m
+-- the flags and the places are right for the chosen sheets that are not left in m
 pub record Noting (store copy : Bytes) (mask : ℕ) (changed places : List ℕ) (m : ℕ) : Type 0 where
   pub small : m < 2 ^ 32
   pub flags : length changed ≡ 32

@@ -1,3 +1,7 @@
+-- `filing::commit` meets its contract, one law for each answer.
+-- Assumes nothing.
+use Rattle.filing.proofs.Answers.{commit-done, commit-no-room, commit-none, commit-nothing, commit-stale, left-committed, may-commit, may-settle, next-is, next-small, seat-small}
+use native.Mathlib.Omega.{arith}
 use borrow.Author.Needs.{needs}
 use Rattle.filing.proofs.commit.Statement.{statement}
 use Rattle.filing.proofs.commit.Tie as tie
@@ -8,109 +12,93 @@ use Rattle.filing.proofs.any_stale.Reads as any-stale-reads
 use Rattle.filing.proofs.note_flags.Reads as note-flags-reads
 use Rattle.filing.proofs.settle.Reads as settle-reads
 
--- src/lib.rt:154:9
 returns : tie.Need-returns
-returns c = ?
+returns c = let a = c .before .before .before .args in commit-none (a .store .now) (a .copy .now) (a .stamp) (a .mask) (c .if1 .taken)
 
--- src/lib.rt:156:8
 any-stale-requires : tie.Need-any-stale-requires
 any-stale-requires c κs = search needs
 
--- src/lib.rt:157:9
 same-length : tie.Need-same-length
 same-length c = search needs
 
--- src/lib.rt:157:9
 same-length-2 : tie.Need-same-length-2
 same-length-2 c = search needs
 
--- src/lib.rt:157:9
 returns-2 : tie.Need-returns-2
-returns-2 c = ?
+returns-2 c =
+    let a = c .before .before .before .before .before .before .before .args in
+    commit-stale (a .store .now) (a .copy .now) (a .stamp) (a .mask) (c .before .before .before .before .if1 .left) (c .before .any-stale .ensures) (c .if2 .taken)
 
--- src/lib.rt:159:9
 note-flags-requires : tie.Need-note-flags-requires
 note-flags-requires c κs = search needs
 
--- src/lib.rt:162:16
 add-next : tie.Need-add-next
-add-next c = ?
+add-next c = let k = c .before .before .before .before .before .before .before .before .before .before .before .before .before in let a = k .args in omega (arith, next-small (a .store .now) (a .copy .now) (a .v) (k .pre))
 
--- src/lib.rt:163:16
 cast-seat : tie.Need-cast-seat
-cast-seat c = ?
+cast-seat c = let k = c .before .before .before .before .before .before .before .before .before .before .before .before .before .before in let a = k .args in omega (arith, seat-small (a .store .now) (a .copy .now) (a .v) (k .pre))
 
--- src/lib.rt:164:82
 slice-aggregate-commit-chosen : tie.Need-slice-aggregate-commit-chosen
 slice-aggregate-commit-chosen c = search needs
 
--- src/lib.rt:164:92
 slice-aggregate-commit-chosen-2 : tie.Need-slice-aggregate-commit-chosen-2
 slice-aggregate-commit-chosen-2 c = search needs
 
--- src/lib.rt:164:9
 commit-chosen-requires : tie.Need-commit-chosen-requires
-commit-chosen-requires c κs = ?
+commit-chosen-requires c κs = let k = c .before .before .before .before .before .before .before .before .before .before .before .before .before .before .before .before .before .before in let a = k .args in may-commit (a .store .now) (a .copy .now) (a .v) (k .pre) (c .before .before .before .before .before .before .before .before .note-flags .ensures)
 
--- src/lib.rt:166:45
 enum-told : tie.Need-enum-told
 enum-told c = search needs
 
--- src/lib.rt:167:44
 enum-told-2 : tie.Need-enum-told-2
 enum-told-2 c = search needs
 
--- src/lib.rt:169:28
 enum-told-3 : tie.Need-enum-told-3
 enum-told-3 c = search needs
 
--- src/lib.rt:169:28
 cast-revision : tie.Need-cast-revision
-cast-revision c = ?
+cast-revision c = let k = c .before .before .before .before .before .before .before .before .before .before .before .before .before .before .before .before .before .before .before .before .before .before .before in let a = k .args in omega (arith, next-small (a .store .now) (a .copy .now) (a .v) (k .pre))
 
--- src/lib.rt:170:42
 slice-aggregate-settle : tie.Need-slice-aggregate-settle
 slice-aggregate-settle c = search needs
 
--- src/lib.rt:170:13
 settle-requires : tie.Need-settle-requires
-settle-requires c κs = ?
+settle-requires c κs = let k = c .before .before .before .before .before .before .before .before .before .before .before .before .before .before .before .before .before .before .before .before .before .before .before .before .before in let a = k .args in (may-settle (a .store .now) (a .copy .now) (a .v) (k .pre), c .before .before .before .before .before .before .before .before .before .before .before .before .before .before .before .note-flags .ensures .flags)
 
--- src/lib.rt:149:1
 same-length-3 : tie.Need-same-length-3
 same-length-3 c = search needs
 
--- src/lib.rt:149:1
 same-length-4 : tie.Need-same-length-4
 same-length-4 c = search needs
 
--- src/lib.rt:149:1
 returns-3 : tie.Need-returns-3
-returns-3 c = ?
+returns-3 c =
+    let a = c .before .before .before .before .before .before .before .before .before .before .before .before .before .before .before .before .before .before .before .before .before .before .before .args in
+    commit-nothing (a .store .now) (a .copy .now) (a .stamp) (a .mask) (c .before .before .before .before .before .before .before .before .before .before .before .before .before .before .before .before .before .before .before .before .if1 .left) (c .before .before .before .before .before .before .before .before .before .before .before .before .before .before .before .before .before .any-stale .ensures) (c .before .before .before .before .before .before .before .before .before .before .before .before .before .before .before .before .if2 .left) (c .enum-told .given .1) (c .before .before .before .before .commit-chosen .ensures)
 
--- src/lib.rt:149:1
 same-length-5 : tie.Need-same-length-5
 same-length-5 c = search needs
 
--- src/lib.rt:149:1
 same-length-6 : tie.Need-same-length-6
 same-length-6 c = search needs
 
--- src/lib.rt:149:1
 returns-4 : tie.Need-returns-4
-returns-4 c = ?
+returns-4 c =
+    let a = c .before .before .before .before .before .before .before .before .before .before .before .before .before .before .before .before .before .before .before .before .before .before .before .args in
+    commit-no-room (a .store .now) (a .copy .now) (a .stamp) (a .mask) (c .before .before .before .before .before .before .before .before .before .before .before .before .before .before .before .before .before .before .before .before .if1 .left) (c .before .before .before .before .before .before .before .before .before .before .before .before .before .before .before .before .before .any-stale .ensures) (c .before .before .before .before .before .before .before .before .before .before .before .before .before .before .before .before .if2 .left) (c .enum-told2 .given .1) (c .before .before .before .before .commit-chosen .ensures)
 
--- src/lib.rt:149:1
 same-length-7 : tie.Need-same-length-7
 same-length-7 c = search needs
 
--- src/lib.rt:149:1
 same-length-8 : tie.Need-same-length-8
 same-length-8 c = search needs
 
--- src/lib.rt:149:1
 returns-5 : tie.Need-returns-5
-returns-5 c = ?
+returns-5 c =
+    let k = c .before .before .before .before .before .before .before .before .before .before .before .before .before .before .before .before .before .before .before .before .before .before .before .before .before .before .before .before in
+    let a = k .args in
+    commit-done (a .store .now) (a .copy .now) (a .stamp) (a .mask) (c .before .before .before .before .before .before .before .before .before .before .before .before .before .before .before .before .before .before .before .before .before .before .before .before .before .if1 .left) (c .before .before .before .before .before .before .before .before .before .before .before .before .before .before .before .before .before .before .before .before .before .before .any-stale .ensures) (c .before .before .before .before .before .before .before .before .before .before .before .before .before .before .before .before .before .before .before .before .before .if2 .left) (c .before .before .before .before .before .enum-told3 .given .1) (c .before .before .before .before .before .before .before .before .before .commit-chosen .ensures)
+    (next-is (a .store .now) (a .copy .now) (a .v) (k .pre)) (left-committed (a .store .now) (a .copy .now) (a .v) (k .pre) (c .before .before .before .before .before .before .before .before .before .before .before .before .before .before .before .before .before .before .note-flags .ensures) (c .before .before .settle .ensures))
 
 pub commit-spec : {M : Type 1} → statement M
 commit-spec =

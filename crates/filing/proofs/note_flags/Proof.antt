@@ -1,11 +1,9 @@
 -- `filing::note_flags` meets its contract. The loop's invariant: the flags of the chosen sheets that are not left are right. The measure is the mask of what is left.
 -- Assumes nothing.
 use Prim.Native.Nat.{_<_}
-use mathlib.Core.Bool.{Bool, cond}
-use mathlib.Core.Path.{ap}
 use lib.Count.{trailingZeros}
 use Rattle.masks.proofs.Bits.{Lowest, and-cleared, cleared-lt, lowest}
-use Rattle.filing.proofs.Noting.{Noting, noting-ends, noting-next, noting-starts}
+use Rattle.filing.proofs.Noting.{Noting, flag-byte, noting-ends, noting-next, noting-starts}
 use borrow.Author.Needs.{needs}
 use native.Mathlib.Omega.{arith}
 use Rattle.filing.proofs.note_flags.Statement.{statement}
@@ -58,7 +56,7 @@ loop-again : tie.Need-loop-again Inv-loop μ-loop
 loop-again c =
     let l = low (c .before .before) in
     let a = c .before .before .before .before .before .before .args in
-    rw (and-cleared (l .1)) (noting-next (a .store .now) (a .copy .now) (a .mask) (c .before .before .before .loop .inv) (l .1) (l .0) (ap (λ (b : Bool). cond b 1 0) (c .before .flag-of .ensures)) (c .place-of .ensures))
+    rw (and-cleared (l .1)) (noting-next (a .store .now) (a .copy .now) (a .mask) (c .before .before .before .loop .inv) (l .1) (l .0) (flag-byte (c .before .flag-of .ensures)) (c .place-of .ensures))
 
 returns : tie.Need-returns Inv-loop μ-loop
 returns c = let a = c .before .before .before .before .args in noting-ends (a .store .now) (a .copy .now) (a .mask) (c .before .loop .inv) (omega arith)
