@@ -1,0 +1,136 @@
+-- The answers of commit, one law for each way through its tests. What is out of date is pending, so that refusal 11 may be tested before refusal 10.
+-- Assumes nothing.
+use Prim.Native.Nat.{_+_, _<_, suc, ℕ}
+use mathlib.Core.Bool.{Bool, _&&_, _||_, cond, false, not, true}
+use mathlib.Core.List.{List, [], _∷_}
+use mathlib.Core.Option.{Option, none, some}
+use mathlib.Core.Path.{_∙_, _≡_, ap, refl, subst, sym}
+use native.Mathlib.Omega.{arith}
+use borrow.Author.Tests.{eq-eqb, ne-eqb}
+use Rattle.model.specs.Calls.{changeBy, sideIn}
+use Rattle.model.specs.Entry.{Entry, added, copied, deleted, empty, modified, normal, pending}
+use Rattle.model.specs.History.{Bytes, History, change, last, namedAfter, names, nothing}
+use Rattle.model.specs.Machine.{Commits, Side, chosen, committed}
+use Rattle.model.specs.Refusals.{conditions, firstOf, nothingChosen, outOfDate, someStale}
+use Rattle.model.specs.Rows.{some-row}
+use Rattle.model.specs.Shows.{Accepted}
+use Rattle.model.specs.Store.{storeHistory}
+use Rattle.model.specs.Types.{numberOf}
+use Rattle.model.specs.WorkCopy.{HoldsCopy, copyBytes, entriesOf, seatOf}
+use Rattle.model.specs.declared.Answer.the-variants.{Refused, Revision as TheRevision}
+use Rattle.model.specs.declared.Refusal.{Refusal}
+use Rattle.model.specs.declared.Refusal.the-variants.{NoRoom as NoSpace, NothingPending, OutOfDate, Range}
+use Rattle.laws.proofs.Accepted.{accepted-kept, accepted-seen, both}
+use Rattle.laws.proofs.Trees.{used-low}
+use Rattle.commits.proofs.Answers.{told-done, told-no-room, told-nothing}
+use Rattle.commits.specs.Outcome.{Answered, Asked, RightFlags}
+use Rattle.commits.specs.declared.Outcome.{Outcome}
+use Rattle.commits.specs.declared.Outcome.the-variants.{Done, NoRoom, Nothing}
+use Rattle.entries.proofs.Checking.{fitting-accepted}
+use Rattle.entries.specs.View.{Fitting}
+use Rattle.entries.specs.declared.View.{View}
+use Rattle.filing.proofs.Settling.{settled-committed}
+use Rattle.filing.specs.Inner.{Settling, innerOut, outAs, settledRows}
+use Rattle.workcopy.proofs.Entries.{held}
+
+-- a row that passes one test passes another
+some-also : {A : Type 0} (f g : ℕ → A → Bool) (k : ℕ) (l : List A) → ((i : ℕ) (a : A) → f i a ≡ true → g i a ≡ true) → some-row f k l ≡ true → some-row g k l ≡ true
+some-also f g k [] h e = e
+some-also f g k (a ∷ l) h e = by (f k a) (g k a) (some-row f (suc k) l) (some-row g (suc k) l) (h k a) (some-also f g (suc k) l h) e
+  where
+    by : (x y p q : Bool) → (x ≡ true → y ≡ true) → (p ≡ true → q ≡ true) → (x || p) ≡ true → (y || q) ≡ true
+    by x true p q s t e = refl
+    by true false p q s t e = absurd (let z : _≡_ {A = ℕ} 0 1 = cc (s refl) in omega arith)
+    by false false p q s t e = t e
+
+stale-pending : (h : History) (i : ℕ) (e : Entry) → outOfDate h i e ≡ true → pending h i e ≡ true
+stale-pending h i empty e = e
+stale-pending h i (normal b x) e = by (modified h i b x) (both (modified h i b x) (namedAfter h b i) e .0)
+  where
+    by : (c : Bool) → c ≡ true → names (cond c (change x) nothing) ≡ true
+    by true z = refl
+    by false z = z
+stale-pending h i (added x) e = refl
+stale-pending h i (deleted b) e = refl
+stale-pending h i (copied s r x) e = refl
+
+stale-chosen : (d : Side) (mask : ℕ) → someStale d mask ≡ true → nothingChosen d mask ≡ false
+stale-chosen d mask e =
+    ap not (some-also (λ i e. chosen mask i && outOfDate (d .history) i e) (λ i e. chosen mask i && pending (d .history) i e) 0 (d .entries)
+    (λ i a. by (chosen mask i) (outOfDate (d .history) i a) (pending (d .history) i a) (stale-pending (d .history) i a)) e)
+  where
+    by : (c x y : Bool) → (x ≡ true → y ≡ true) → (c && x) ≡ true → (c && y) ≡ true
+    by true x y s e = s e
+    by false x y s e = e
+
+module _ (store copy : Bytes) (stamp mask : ℕ) where
+  abbrev d : Side
+  d = sideIn store copy
+
+  refused-is : (r : Refusal) → firstOf (conditions d (Commits stamp mask)) ≡ some (numberOf r) → outAs (Refused r) store copy ≡ innerOut store copy (Commits stamp mask)
+  unfolding innerOut
+  refused-is r e = sym (ap (λ (o : Option ℕ). changeBy o store copy (Commits stamp mask)) e)
+
+  pub commit-none : mask ≡ 0 → outAs (Refused Range) store copy ≡ innerOut store copy (Commits stamp mask)
+  commit-none z = refused-is Range (rw (eq-eqb mask 0 z))
+
+  module _ (n : mask ≡ 0 → ⊥) {b : Bool} (q : b ≡ someStale d mask) where
+    pub commit-stale : b ≡ true → outAs (Refused OutOfDate) store copy ≡ innerOut store copy (Commits stamp mask)
+    commit-stale z =
+        let s : someStale d mask ≡ true = sym q ∙ z in
+        refused-is OutOfDate (rw (ne-eqb mask 0 n, stale-chosen d mask s, s))
+
+    module _ (z : b ≡ false) {store′ : Bytes} where
+      pub commit-nothing : {o : Outcome} → o ≡ Nothing → Answered store copy store′ stamp mask o → outAs (Refused NothingPending) store′ copy ≡ innerOut store copy (Commits stamp mask)
+      commit-nothing e A =
+          let t = told-nothing store copy store′ stamp mask (subst (Answered store copy store′ stamp mask) e A) in
+          ap (λ (x : Bytes). outAs (Refused NothingPending) x copy) (t .1) ∙ refused-is NothingPending (rw (ne-eqb mask 0 n, t .0))
+
+      pub commit-no-room : {o : Outcome} → o ≡ NoRoom → Answered store copy store′ stamp mask o → outAs (Refused NoSpace) store′ copy ≡ innerOut store copy (Commits stamp mask)
+      commit-no-room e A =
+          let t = told-no-room store copy store′ stamp mask (subst (Answered store copy store′ stamp mask) e A) in
+          ap (λ (x : Bytes). outAs (Refused NoSpace) x copy) (t .2) ∙ refused-is NoSpace (rw (ne-eqb mask 0 n, t .0, sym q ∙ z, t .1))
+
+      pub commit-done : {o : Outcome} {u R : ℕ} {copy′ : Bytes} → o ≡ Done u → Answered store copy store′ stamp mask o → R ≡ suc (last (storeHistory store))
+          → copy′ ≡ copyBytes (seatOf copy) (committed (storeHistory store) mask (entriesOf copy)) → outAs (TheRevision R) store′ copy′ ≡ innerOut store copy (Commits stamp mask)
+      unfolding innerOut
+      commit-done {u = u} e A r w =
+          let t = told-done store copy store′ stamp mask u (subst (Answered store copy store′ stamp mask) e A) in
+          let k : firstOf (conditions d (Commits stamp mask)) ≡ none = rw (ne-eqb mask 0 n, t .0, sym q ∙ z, t .1) in
+          (λ i. outAs (TheRevision (r i)) (t .3 i) (w i)) ∙ sym (ap (λ (o : Option ℕ). changeBy o store copy (Commits stamp mask)) k)
+
+-- ---- what the steps ask for
+
+module _ (store copy : Bytes) (v : View) (F : Fitting store copy v) where
+  abbrev taken : Accepted store copy
+  taken = fitting-accepted store copy v F
+
+  last-small : last (storeHistory store) < 4_096
+  last-small = let K = accepted-kept store copy taken in omega (arith, used-low (storeHistory store), K .used, K .room, accepted-seen store copy taken .many)
+
+  pub next-small : v .last + 1 < 65_536
+  next-small = omega (arith, last-small, F .viewed .opened .last)
+
+  pub seat-small : v .seat < 256
+  unfolding HoldsCopy
+  seat-small = omega (arith, F .seat, held copy (F .viewed .accepted) .1 .1)
+
+  pub may-commit : {mask : ℕ} {changed places : List ℕ} → RightFlags store copy mask changed places → Asked store copy (v .used) (v .last + 1) (v .seat) mask changed places
+  may-commit R = record {
+    taken = taken;
+    uses = F .viewed .opened .accepted .inUse;
+    next = omega (arith, F .viewed .opened .last);
+    by = F .seat;
+    right = R;
+  }
+
+  pub may-settle : Settling copy (v .last + 1)
+  may-settle = record { accepted = F .viewed .accepted; low = omega arith; high = next-small }
+
+  pub next-is : v .last + 1 ≡ suc (last (storeHistory store))
+  next-is = omega (arith, F .viewed .opened .last)
+
+  pub left-committed : {mask : ℕ} {changed places : List ℕ} {copy′ : Bytes} → RightFlags store copy mask changed places
+      → copy′ ≡ copyBytes (seatOf copy) (settledRows (v .last + 1) changed mask (entriesOf copy))
+      → copy′ ≡ copyBytes (seatOf copy) (committed (storeHistory store) mask (entriesOf copy))
+  left-committed R w = w ∙ ap (copyBytes (seatOf copy)) (settled-committed store copy (F .viewed .accepted) R next-is)

@@ -1,0 +1,5 @@
+pub mod Looking
+pub mod Noting
+pub mod Settling
+pub mod Answers
+pub mod Keeping
