@@ -4,7 +4,7 @@ use Prim.Native.Nat.{ℕ}
 use mathlib.Core.List.{_++_, append-assoc}
 use mathlib.Core.Option.{Option, some}
 use mathlib.Core.Path.{_∙_, _≡_, ap, sym}
-use Rattle.model.specs.Calls.{changeBy, changeCall, copyConditions, out, refusalOf, sideIn, storeConditions}
+use Rattle.model.specs.Calls.{Out, changeBy, changeCall, copyConditions, out, refusalOf, sideIn, storeConditions}
 use Rattle.model.specs.History.{Bytes}
 use Rattle.model.specs.Machine.{Call, refused}
 use Rattle.model.specs.Refusals.{conditions, firstOf}
@@ -13,8 +13,8 @@ use Rattle.model.specs.declared.Answer.{Answer}
 use Rattle.model.specs.declared.Refusal.{Refusal}
 use Rattle.laws.proofs.Conditions.{clear}
 use Rattle.engine.proofs.Refusing.{first-stays}
-use Rattle.entries.proofs.Checking.{check-ready, check-refused, fitting-accepted}
-use Rattle.entries.specs.View.{checkOf}
+use Rattle.entries.proofs.Checking.{check-ready, check-refused, fitting-accepted, inner-call}
+use Rattle.entries.specs.View.{checkOf, innerOut}
 use Rattle.entries.specs.declared.Checked.the-variants.{Ready, Refused}
 use Rattle.entries.specs.declared.View.{View}
 use Rattle.local.proofs.Calls.{Local, local-call}
@@ -37,3 +37,7 @@ module _ (store copy : Bytes) where
       let A = fitting-accepted store copy v (check-ready store copy v e) in
       ap (λ (o : LocalOut). out (o .says) store (o .copy)) q
       ∙ sym (local-call store copy c l (clear (storeConditions store) (A .storeTaken)) (clear (copyConditions store copy) (A .copyTaken)))
+
+  -- where no line from 1 to 6 holds, the call is the inner call
+  pub inner-done : (v : View) (c : Call) {o : Out} → checkOf store copy ≡ Ready v → o ≡ innerOut store copy c → o ≡ changeCall store copy c
+  inner-done v c e q = q ∙ inner-call store copy v (check-ready store copy v e) c

@@ -5,7 +5,7 @@ ghost use mathlib.Core.List.{[]};
 ghost use mathlib.Core.Path.{_≡_};
 ghost use lib.Dec.{ltb};
 ghost use Rattle.entries.specs.View.{Fitting};
-ghost use Rattle.model.specs.Calls.{addCall, copyCall, createCopy, createStore, deleteCall, editCall, logCall, moveCall, out, partOf, readPlace, showPlace, sizeCondition, statusCall};
+ghost use Rattle.model.specs.Calls.{addCall, commitCall, copyCall, createCopy, createStore, deleteCall, editCall, logCall, moveCall, out, partOf, readPlace, revertCall, showPlace, sizeCondition, statusCall, updateCall};
 ghost use Rattle.model.specs.Refusals.{noSheet};
 ghost use Rattle.model.specs.Types.{answerOf, createdAs, numberOf};
 ghost use Rattle.store.specs.Opened.{openOf};
@@ -283,6 +283,41 @@ pub fn move_sheet(store: &[u8], copy: &mut [u8], from: u32, to: u32) -> Answer
     match c {
         Checked::Refused(k) => Answer::Refused(k),
         Checked::Ready(v) => local::move_sheet(copy, from, to),
+    }
+}
+
+// ---- the store and the working copy
+
+// Commit: the chosen pending entries become the next revision.
+pub fn commit(store: &mut [u8], copy: &mut [u8], stamp: u32, mask: u32) -> Answer
+    ensures { λ r. ⌜ out (answerOf r) (now (store .exit)) (now (copy .exit)) ≡ commitCall (now (store .entry)) (now (copy .entry)) stamp mask ⌝ }
+{
+    let c = entries::check(store, copy);
+    match c {
+        Checked::Refused(k) => Answer::Refused(k),
+        Checked::Ready(v) => filing::commit(store, copy, v, stamp, mask),
+    }
+}
+
+// Update: the chosen entries come to a revision, unless one is a conflict.
+pub fn update(store: &[u8], copy: &mut [u8], mask: u32, revision: u32) -> Answer
+    ensures { λ r. ⌜ out (answerOf r) (now (store .entry)) (now (copy .exit)) ≡ updateCall (now (store .entry)) (now (copy .entry)) mask revision ⌝ }
+{
+    let c = entries::check(store, copy);
+    match c {
+        Checked::Refused(k) => Answer::Refused(k),
+        Checked::Ready(v) => updates::update(store, copy, v, mask, revision),
+    }
+}
+
+// Revert: the chosen entries come back to their base.
+pub fn revert(store: &[u8], copy: &mut [u8], mask: u32) -> Answer
+    ensures { λ r. ⌜ out (answerOf r) (now (store .entry)) (now (copy .exit)) ≡ revertCall (now (store .entry)) (now (copy .entry)) mask ⌝ }
+{
+    let c = entries::check(store, copy);
+    match c {
+        Checked::Refused(k) => Answer::Refused(k),
+        Checked::Ready(v) => updates::revert(store, copy, v, mask),
     }
 }
 

@@ -10,10 +10,11 @@ use borrow.Author.Tests.{eq-eqb, eqb-true}
 use lib.Dec.{eqb}
 use lib.ListN.{length}
 use Rattle.block.proofs.Says.{is-true}
-use Rattle.model.specs.Calls.{copyConditions, copySizeCondition, sizeCondition, storeConditions}
+use Rattle.model.specs.Calls.{changeBy, changeCall, copyConditions, copySizeCondition, refusalOf, sideIn, sizeCondition, storeConditions}
 use Rattle.model.specs.Fitting.{fitsStore}
 use Rattle.model.specs.History.{Bytes, last}
-use Rattle.model.specs.Refusals.{Condition, _when_, firstOf}
+use Rattle.model.specs.Machine.{Call}
+use Rattle.model.specs.Refusals.{Condition, _when_, conditions, firstOf}
 use Rattle.model.specs.Shows.{Accepted}
 use Rattle.model.specs.Store.{blockCount, checked, lawful, storeHistory, usedOf}
 use Rattle.model.specs.Types.{numberOf}
@@ -23,7 +24,7 @@ use Rattle.model.specs.declared.Refusal.the-variants.{CopyLayout, CopyLength, S
 use Rattle.laws.proofs.Accepted.{is-T}
 use Rattle.laws.proofs.Conditions.{clear, clear-first, clear-split, none-holds}
 use Rattle.laws.proofs.Rows.{not-false}
-use Rattle.entries.specs.View.{Fitting, Viewed, checkOf, checkedBy, viewOf}
+use Rattle.entries.specs.View.{Fitting, Viewed, checkOf, checkedBy, innerOut, viewOf}
 use Rattle.entries.specs.declared.Checked.the-variants.{Ready, Refused}
 use Rattle.entries.specs.declared.View.{View}
 use Rattle.store.proofs.Opening.{open-accepted}
@@ -156,3 +157,13 @@ module _ (store copy : Bytes) where
         storeTaken = f .viewed .opened .accepted .clear;
         copyTaken = none-holds (copyConditions store copy) (ap not (eq-eqb (length copy) 16_896 (a .size)), (ap not (is-true (copyOk copy) (a .ok)), (ap not (f .fits), tt)));
       }
+
+-- where no line from 1 to 6 holds, the inner call is the call
+pub inner-call : (store copy : Bytes) (v : View) → Fitting store copy v → (c : Call) → innerOut store copy c ≡ changeCall store copy c
+unfolding innerOut changeCall refusalOf
+inner-call store copy v F c =
+    let A = fitting-accepted store copy v F in
+    let cs = conditions (sideIn store copy) c in
+    ap (λ (o : Option ℕ). changeBy o store copy c)
+    (sym (clear-first (storeConditions store) (copyConditions store copy ++ cs) (clear (storeConditions store) (A .storeTaken))
+    ∙ clear-first (copyConditions store copy) cs (clear (copyConditions store copy) (A .copyTaken))))

@@ -8,12 +8,15 @@ use mathlib.Core.Path.{_≡_}
 use lib.Dec.{eqb}
 use lib.ListN.{getD}
 use Rattle.model.specs.Blocks.{bytesAt}
-use Rattle.model.specs.Calls.{copyConditions, storeConditions}
+use Rattle.model.specs.Calls.{Out, changeBy, copyConditions, out, sideIn, storeConditions}
+use Rattle.model.specs.Machine.{Call}
+use Rattle.model.specs.Types.{answerOf}
+use Rattle.model.specs.declared.Answer.{Answer}
 use Rattle.model.specs.Entry.{Entry, added, copied, deleted, empty, normal, ownBytes}
 use Rattle.model.specs.Fitting.{fitsStore}
 use Rattle.model.specs.History.{Bytes, last}
 use Rattle.model.specs.Machine.{updatedTo}
-use Rattle.model.specs.Refusals.{firstOf}
+use Rattle.model.specs.Refusals.{conditions, firstOf}
 use Rattle.model.specs.Store.{blockCount, storeBlocks, storeHistory, usedOf}
 use Rattle.model.specs.WorkCopy.{entriesOf, seatOf}
 use Rattle.model.specs.declared.Refusal.{Refusal}
@@ -106,3 +109,13 @@ Stands store Rebase = Unit {0}
 pub record UpdateIs (store copy : Bytes) (R i : ℕ) (x : Update) : Type 0 where
   pub means : updatedAs x store R (entryIn copy i) ≡ updatedTo (storeHistory store) R i (entryIn copy i)
   pub stands : Stands store x
+
+-- ---- inner calls
+
+-- the call on buffers, where no line from 1 to 6 holds: the machine's own conditions are the only ones left
+unfoldable pub innerOut : Bytes → Bytes → Call → Out
+innerOut store copy c = changeBy (firstOf (conditions (sideIn store copy) c)) store copy c
+
+-- what the code answers, beside the buffers that it leaves
+abbrev pub outAs : Answer → Bytes → Bytes → Out
+outAs a store copy = out (answerOf a) store copy

@@ -30,7 +30,8 @@ use Rattle.entries.proofs.Checking.{fitting-accepted}
 use Rattle.entries.specs.View.{Fitting}
 use Rattle.entries.specs.declared.View.{View}
 use Rattle.filing.proofs.Settling.{settled-committed}
-use Rattle.filing.specs.Inner.{Settling, innerOut, outAs, settledRows}
+use Rattle.filing.specs.Inner.{Settling, settledRows}
+use Rattle.entries.specs.View.{innerOut, outAs}
 use Rattle.workcopy.proofs.Entries.{held}
 
 -- a row that passes one test passes another

@@ -8,9 +8,9 @@ use mathlib.Core.Path.{_∙_, _≡_, ap, subst, sym}
 use native.Mathlib.Omega.{arith}
 use lib.ListN.{length, length-append}
 use Rattle.model.specs.Blocks.{fieldsOf}
-use Rattle.model.specs.Calls.{Out, call, changeBy, changeCall, copyConditions, refusalOf, sideIn, storeConditions}
+use Rattle.model.specs.Calls.{Out, call, copyConditions, sideIn, storeConditions}
 use Rattle.model.specs.History.{Bytes, last}
-use Rattle.model.specs.Machine.{Call, Commits, Side, blocksFor, commitChanges, committing, newCommit, revision}
+use Rattle.model.specs.Machine.{Commits, Side, blocksFor, commitChanges, committing, newCommit, revision}
 use Rattle.model.specs.Refusals.{conditions, firstOf}
 use Rattle.model.specs.Run.{sideBy, sideStep}
 use Rattle.model.specs.Shows.{Accepted, Seen}
@@ -24,10 +24,9 @@ use Rattle.laws.proofs.Conditions.{clear, clear-first}
 use Rattle.laws.proofs.Store.{holds-accepted}
 use Rattle.laws.proofs.WorkCopy.{holds-copy, length-joined}
 use Rattle.laws.proofs.Writing.{holds-blocks}
-use Rattle.entries.proofs.Checking.{check-ready, fitting-accepted}
-use Rattle.entries.specs.View.{Fitting, checkOf, checkedBy, viewOf}
+use Rattle.entries.proofs.Checking.{check-ready, fitting-accepted, inner-call}
+use Rattle.entries.specs.View.{Fitting, checkOf, checkedBy, innerOut, outAs, viewOf}
 use Rattle.entries.specs.declared.View.{View}
-use Rattle.filing.specs.Inner.{innerOut, outAs}
 
 accepted-fitting : (store copy : Bytes) → Accepted store copy → Fitting store copy (viewOf store copy)
 unfolding checkOf
@@ -54,15 +53,6 @@ module _ (store copy : Bytes) (v : View) (F : Fitting store copy v) where
   abbrev taken : Accepted store copy
   taken = fitting-accepted store copy v F
 
-  -- an inner call is the document's
-  pub inner-call : (c : Call) → innerOut store copy c ≡ changeCall store copy c
-  unfolding innerOut changeCall refusalOf
-  inner-call c =
-      let cs = conditions (sideIn store copy) c in
-      ap (λ (o : Option ℕ). changeBy o store copy c)
-      (sym (clear-first (storeConditions store) (copyConditions store copy ++ cs) (clear (storeConditions store) (taken .storeTaken))
-      ∙ clear-first (copyConditions store copy) cs (clear (copyConditions store copy) (taken .copyTaken))))
-
   -- with a commit of the chosen entries
   abbrev pub grownView : ℕ → View
   grownView mask = record {
@@ -81,15 +71,14 @@ module _ (store copy : Bytes) (v : View) (F : Fitting store copy v) where
       let k : ℕ = blocksFor (d .history) (commitChanges (d .history) mask (d .entries)) in
       let u : d .used + k ≡ v .used + k = omega (arith, O .accepted .inUse) in
       let l : last (d .history ++ (newCommit d stamp mask ∷ [])) ≡ v .last + 1 = length-append (d .history) (newCommit d stamp mask ∷ []) ∙ omega (arith, O .last) in
-      let R≡ : R ≡ suc (last (d .history)) = cc in
-      (
+      let R≡ : R ≡ suc (last (d .history)) = cc in (
         seen-view (blockCount store) store′ copy′ (committing d stamp mask) E ∙ (λ i. record { n = sym (O .accepted .count) i; used = u i; last = l i; seat = sym (F .seat) i }),
         omega (arith, R≡, O .last),
       )
 
   module _ (stamp mask : ℕ) (g : stamp < 2 ^ 32) (r : Answer) {store′ copy′ : Bytes} (e : outAs r store′ copy′ ≡ innerOut store copy (Commits stamp mask)) where
     left : outAs r store′ copy′ ≡ call store copy (Commits stamp mask)
-    left = e ∙ inner-call (Commits stamp mask)
+    left = e ∙ inner-call store copy v F (Commits stamp mask)
 
     -- THE STATEMENTS: the buffers that a commit leaves fit
     pub commit-fitting : Fitting store′ copy′ (viewOf store′ copy′)

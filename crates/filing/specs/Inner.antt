@@ -3,30 +3,16 @@
 use Prim.Native.Nat.{_<_, _≤_, ℕ}
 use mathlib.Core.Bool.{Bool, cond, false, not}
 use mathlib.Core.List.{List}
-use mathlib.Core.Path.{_≡_}
 use lib.Dec.{eqb}
-use lib.ListN.{getD, length}
-use Rattle.model.specs.Calls.{Out, changeBy, out as outOf, sideIn}
+use lib.ListN.{getD}
 use Rattle.model.specs.Entry.{Entry, added, copied, deleted, empty, modified, normal}
 use Rattle.model.specs.History.{Bytes, History, isBytes, sheet}
-use Rattle.model.specs.Machine.{Call}
-use Rattle.model.specs.Refusals.{conditions, firstOf}
 use Rattle.model.specs.Rows.{rows}
 use Rattle.model.specs.Store.{blockUsed}
-use Rattle.model.specs.Types.{answerOf}
-use Rattle.model.specs.declared.Answer.{Answer}
 use Rattle.model.specs.declared.State.{State}
 use Rattle.model.specs.declared.State.the-variants.{Added, Copied, Deleted, Empty, Normal}
 use Rattle.masks.specs.Mask.{atChosen}
 use Rattle.workcopy.specs.Copy.{Accepted}
-
--- the call on buffers, where no line from 1 to 6 holds
-unfoldable pub innerOut : Bytes → Bytes → Call → Out
-innerOut store copy c = changeBy (firstOf (conditions (sideIn store copy) c)) store copy c
-
--- what the code answers, beside the buffers that it leaves
-abbrev pub outAs : Answer → Bytes → Bytes → Out
-outAs a store copy = outOf (answerOf a) store copy
 
 -- a normal entry is modified, or a copied one's bytes "differ from the source's at the source revision"
 abbrev pub altered : History → ℕ → Entry → Bool

@@ -11,7 +11,8 @@ ghost use mathlib.Core.Path.{_≡_};
 ghost use lib.ListN.{length, set};
 ghost use Rattle.commits.specs.Outcome.{RightFlags};
 ghost use Rattle.entries.specs.View.{Fitting, entryIn};
-ghost use Rattle.filing.specs.Inner.{Settling, altered, innerOut, outAs, settledAs, settledRows, settledState, sourceBlock};
+ghost use Rattle.filing.specs.Inner.{Settling, altered, settledAs, settledRows, settledState, sourceBlock};
+ghost use Rattle.entries.specs.View.{innerOut, outAs};
 ghost use Rattle.model.specs.Calls.{sideIn};
 ghost use Rattle.model.specs.Machine.{Commits};
 ghost use Rattle.model.specs.Refusals.{someStale};
@@ -161,7 +162,17 @@ pub fn commit(store: &mut [u8], copy: &mut [u8], v: View, stamp: u32, mask: u32)
     let places = flags.places;
     let next = v.last + 1;
     let seat = v.seat as u8;
-    let o = commits::commit_chosen(store, v.used, next, seat, stamp, mask, copy, &changed, &places);
+    let o = commits::commit_chosen(
+        store,
+        v.used,
+        next,
+        seat,
+        stamp,
+        mask,
+        copy,
+        &changed,
+        &places,
+    );
     match o {
         Outcome::Nothing => Answer::Refused(Refusal::NothingPending),
         Outcome::NoRoom => Answer::Refused(Refusal::NoRoom),

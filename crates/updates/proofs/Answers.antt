@@ -18,7 +18,7 @@ use Rattle.model.specs.declared.Refusal.{Refusal}
 use Rattle.model.specs.declared.Refusal.the-variants.{Conflict, Range}
 use Rattle.entries.specs.View.{Fitting}
 use Rattle.entries.specs.declared.View.{View}
-use Rattle.updates.specs.Inner.{innerOut, outAs}
+use Rattle.entries.specs.View.{innerOut, outAs}
 
 module _ (store copy : Bytes) where
   refused-is : (c : Call) (r : Refusal) → firstOf (conditions (sideIn store copy) c) ≡ some (numberOf r) → outAs (Refused r) store copy ≡ innerOut store copy c

@@ -1,13 +1,13 @@
 -- A copy that fits a store still fits it when entries that fit take the place of others; and with an inner call done on it.
 -- Assumes nothing.
 use Prim.Native.Nat.{_≤_, ℕ}
-use mathlib.Core.List.{List, _++_}
+use mathlib.Core.List.{List}
 use mathlib.Core.Option.{Option, none, some}
 use mathlib.Core.Path.{_∙_, _≡_, ap, refl, subst, sym}
 use native.Mathlib.Omega.{arith}
 use lib.ListN.{set}
 use lib.Seq.{set-getD}
-use Rattle.model.specs.Calls.{Out, changeBy, changeCall, copyConditions, refusalOf, sideIn, storeConditions}
+use Rattle.model.specs.Calls.{Out, changeBy, sideIn}
 use Rattle.model.specs.Entry.{Entry, empty}
 use Rattle.model.specs.Fitting.{fitsStore}
 use Rattle.model.specs.History.{Bytes, History}
@@ -17,15 +17,13 @@ use Rattle.model.specs.Refusals.{conditions, firstOf}
 use Rattle.model.specs.Store.{storeHistory}
 use Rattle.model.specs.WorkCopy.{FitsCopyBlock, HoldsCopy, copyBytes, entriesOf, entryBlock, seatOf}
 use Rattle.laws.proofs.Accepted.{accepted-kept, accepted-seen}
-use Rattle.laws.proofs.Conditions.{clear, clear-first}
 use Rattle.laws.proofs.Invariant.{KeptSide, kept-doing, kept-entry}
 use Rattle.laws.proofs.Steps.{fits-all, fits-piece, laid-copy}
 use Rattle.laws.proofs.Trees.{used-low}
 use Rattle.laws.proofs.WorkCopy.{holds-copy}
 use Rattle.entries.proofs.Checking.{fitting-accepted}
-use Rattle.entries.specs.View.{Fitting, entryIn}
+use Rattle.entries.specs.View.{Fitting, entryIn, innerOut}
 use Rattle.entries.specs.declared.View.{View}
-use Rattle.updates.specs.Inner.{innerOut}
 use Rattle.workcopy.proofs.Entries.{held}
 
 module _ (store copy : Bytes) (v : View) (F : Fitting store copy v) where
@@ -79,16 +77,6 @@ module _ (store copy : Bytes) (v : View) (F : Fitting store copy v) where
 
   pub update-fitting : (mask R : ℕ) {o : Out} → o ≡ innerOut store copy (UpdateCall mask R) → Fitting store (o .copy) v
   update-fitting mask R q = fitting-left (UpdateCall mask R) (λ e. fitting-of _ (kept-doing d (UpdateCall mask R) e (seats .0) (seats .1) tt kept)) q
-
-  -- an inner call is the call on both buffers
-  pub inner-call : (c : Call) → innerOut store copy c ≡ changeCall store copy c
-  unfolding innerOut changeCall refusalOf
-  inner-call c =
-      let A = fitting-accepted store copy v F in
-      let cs = conditions d c in
-      ap (λ (o : Option ℕ). changeBy o store copy c)
-      (sym (clear-first (storeConditions store) (copyConditions store copy ++ cs) (clear (storeConditions store) (A .storeTaken))
-      ∙ clear-first (copyConditions store copy) cs (clear (copyConditions store copy) (A .copyTaken))))
 
   -- the copy is that of its entries, also with one of them put again
   pub same-copy : copy ≡ copyBytes (seatOf copy) (entriesOf copy)

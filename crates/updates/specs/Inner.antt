@@ -5,27 +5,17 @@ use mathlib.Core.Bool.{Bool}
 use mathlib.Core.Option.{none}
 use mathlib.Core.Path.{_≡_}
 use Rattle.model.specs.Blocks.{bytesAt}
-use Rattle.model.specs.Calls.{Out, changeBy, out as outOf, sideIn, storeConditions}
+use Rattle.model.specs.Calls.{storeConditions}
 use Rattle.model.specs.Entry.{Entry, normal}
 use Rattle.model.specs.History.{Bytes, History}
-use Rattle.model.specs.Machine.{Call, orElse, updatedTo}
-use Rattle.model.specs.Refusals.{conditions, conflict, firstOf}
+use Rattle.model.specs.Machine.{orElse, updatedTo}
+use Rattle.model.specs.Refusals.{conflict, firstOf}
 use Rattle.model.specs.Store.{blockCount, storeBlocks, storeHistory}
-use Rattle.model.specs.Types.{answerOf}
 use Rattle.model.specs.WorkCopy.{FitsCopyBlock, entryBlock}
-use Rattle.model.specs.declared.Answer.{Answer}
 use Rattle.model.specs.declared.State.{State}
 use Rattle.model.specs.declared.State.the-variants.{Added, Copied, Deleted, Empty, Normal}
 use Rattle.entries.specs.View.{entryIn}
 use Rattle.workcopy.specs.Copy.{Accepted}
-
--- the call on buffers, where no line from 1 to 6 holds
-unfoldable pub innerOut : Bytes → Bytes → Call → Out
-innerOut store copy c = changeBy (firstOf (conditions (sideIn store copy) c)) store copy c
-
--- what the code answers, beside the buffers that it leaves
-abbrev pub outAs : Answer → Bytes → Bytes → Out
-outAs a store copy = outOf (answerOf a) store copy
 
 -- update makes nothing of entry i
 abbrev pub conflicting : Bytes → Bytes → ℕ → ℕ → Bool

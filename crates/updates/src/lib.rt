@@ -19,7 +19,8 @@ ghost use Rattle.model.specs.Machine.{Update as UpdateCall};
 ghost use Rattle.model.specs.Refusals.{someConflict};
 ghost use Rattle.model.specs.Store.{storeBlocks, storeHistory};
 ghost use Rattle.model.specs.WorkCopy.{copyBytes, entriesOf, seatOf};
-ghost use Rattle.updates.specs.Inner.{Takable, conflicting, innerOut, outAs, rebasedState, updatedOf};
+ghost use Rattle.updates.specs.Inner.{Takable, conflicting, rebasedState, updatedOf};
+ghost use Rattle.entries.specs.View.{innerOut, outAs};
 ghost use Rattle.workcopy.specs.Copy.{Accepted};
 
 // ---- one entry
