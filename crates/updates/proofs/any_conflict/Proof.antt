@@ -1,5 +1,5 @@
--- Assumes nothing.
 -- `updates::any_conflict` meets its contract. The loop's invariant: what is left to look at from here gives the whole. The measure is the mask of what is left.
+-- Assumes nothing.
 use Prim.Native.Nat.{_<_, _^_}
 use mathlib.Core.Path.{_∙_, _≡_, refl}
 use native.Mathlib.Omega.{arith}

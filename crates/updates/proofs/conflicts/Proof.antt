@@ -1,5 +1,5 @@
--- Assumes nothing.
 -- `updates::conflicts` meets its contract, one answer for each way of an update.
+-- Assumes nothing.
 use borrow.Author.Needs.{needs}
 use Rattle.updates.proofs.Entering.{conflict-as}
 use Rattle.updates.proofs.conflicts.Statement.{statement}

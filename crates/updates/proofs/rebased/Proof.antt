@@ -1,5 +1,5 @@
--- Assumes nothing.
 -- `updates::rebased` meets its contract, state by state.
+-- Assumes nothing.
 use mathlib.Core.Path.{ap, sym}
 use borrow.Author.Needs.{needs}
 use Rattle.updates.proofs.rebased.Statement.{statement}

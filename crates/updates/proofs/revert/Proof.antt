@@ -1,5 +1,5 @@
--- Assumes nothing.
 -- `updates::revert` meets its contract, one law for each answer.
+-- Assumes nothing.
 use borrow.Author.Needs.{needs}
 use Rattle.updates.proofs.Answers.{revert-done, revert-none}
 use Rattle.updates.proofs.revert.Statement.{statement}

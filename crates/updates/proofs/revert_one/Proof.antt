@@ -1,5 +1,5 @@
--- Assumes nothing.
 -- `updates::revert_one` meets its contract, state by state.
+-- Assumes nothing.
 use borrow.Author.Needs.{needs}
 use Rattle.updates.proofs.Entering.{deleted-base, normal-base, revert-stays, reverts}
 use Rattle.updates.proofs.revert_one.Statement.{statement}

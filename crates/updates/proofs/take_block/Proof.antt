@@ -1,5 +1,5 @@
--- Assumes nothing.
 -- `updates::take_block` meets its contract: the block's bytes stand in the store.
+-- Assumes nothing.
 use borrow.Author.Needs.{needs}
 use Rattle.updates.proofs.Entering.{take-leaves, take-put}
 use Rattle.updates.proofs.take_block.Statement.{statement}

@@ -1,5 +1,5 @@
--- Assumes nothing.
 -- `updates::take_sheet` meets its contract: the block that is found holds the sheet's bytes.
+-- Assumes nothing.
 use borrow.Author.Needs.{needs}
 use Rattle.updates.proofs.Entering.{sheet-takable, sheet-taken}
 use Rattle.updates.proofs.take_sheet.Statement.{statement}

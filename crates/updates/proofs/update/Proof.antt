@@ -1,5 +1,5 @@
--- Assumes nothing.
 -- `updates::update` meets its contract, one law for each answer.
+-- Assumes nothing.
 use borrow.Author.Needs.{needs}
 use Rattle.updates.proofs.Answers.{update-done, update-late, update-none, update-refused}
 use Rattle.updates.proofs.update.Statement.{statement}

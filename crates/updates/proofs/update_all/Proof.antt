@@ -1,6 +1,6 @@
--- Assumes nothing.
--- of what is left.
 -- `updates::update_all` meets its contract. The loop's invariant: what is left to do from here gives the whole, and the copy still fits. The measure is the mask
+-- of what is left.
+-- Assumes nothing.
 use Prim.Native.Nat.{_<_}
 use mathlib.Core.Path.{refl}
 use native.Mathlib.Omega.{arith}

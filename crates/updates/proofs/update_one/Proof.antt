@@ -1,5 +1,5 @@
--- Assumes nothing.
 -- `updates::update_one` meets its contract, one law for each way of an update.
+-- Assumes nothing.
 use borrow.Author.Needs.{needs}
 use Rattle.updates.proofs.Entering.{rebase-put, update-conflict, update-rebases, update-stays, update-takable, updates}
 use Rattle.updates.proofs.update_one.Statement.{statement}
