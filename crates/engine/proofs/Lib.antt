@@ -6,3 +6,4 @@ pub mod Parts
 pub mod Demand2
 pub mod Changing
 pub mod Showing
+pub mod Demand3
