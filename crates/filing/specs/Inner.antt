@@ -3,9 +3,8 @@
 use Prim.Native.Nat.{_<_, _≤_, ℕ}
 use mathlib.Core.Bool.{Bool, cond, false, not}
 use mathlib.Core.List.{List}
-use mathlib.Core.Path.{_≡_}
 use lib.Dec.{eqb}
-use lib.ListN.{getD, length}
+use lib.ListN.{getD}
 use Rattle.model.specs.Calls.{Out, changeBy, out as outOf, sideIn}
 use Rattle.model.specs.Entry.{Entry, added, copied, deleted, empty, modified, normal}
 use Rattle.model.specs.History.{Bytes, History, isBytes, sheet}

@@ -1,16 +1,10 @@
 -- `filing::commit` meets its contract, one law for each answer.
 -- Assumes nothing.
-use Rattle.filing.proofs.Answers.{commit-done, commit-no-room, commit-none, commit-nothing, commit-stale, left-committed, may-commit, may-settle, next-is, next-small, seat-small}
 use native.Mathlib.Omega.{arith}
 use borrow.Author.Needs.{needs}
+use Rattle.filing.proofs.Answers.{commit-done, commit-no-room, commit-none, commit-nothing, commit-stale, left-committed, may-commit, may-settle, next-is, next-small, seat-small}
 use Rattle.filing.proofs.commit.Statement.{statement}
 use Rattle.filing.proofs.commit.Tie as tie
-use Rattle.filing.proofs.commit.Reads as reads
-use Rattle.filing.proofs.commit.Lts as lts
-use Rattle.commits.proofs.commit_chosen.Reads as commit-chosen-reads
-use Rattle.filing.proofs.any_stale.Reads as any-stale-reads
-use Rattle.filing.proofs.note_flags.Reads as note-flags-reads
-use Rattle.filing.proofs.settle.Reads as settle-reads
 
 returns : tie.Need-returns
 returns c = let a = c .before .before .before .args in commit-none (a .store .now) (a .copy .now) (a .stamp) (a .mask) (c .if1 .taken)
@@ -74,7 +68,7 @@ same-length-4 c = search needs
 returns-3 : tie.Need-returns-3
 returns-3 c =
     let a = c .before .before .before .before .before .before .before .before .before .before .before .before .before .before .before .before .before .before .before .before .before .before .before .args in
-    commit-nothing (a .store .now) (a .copy .now) (a .stamp) (a .mask) (c .before .before .before .before .before .before .before .before .before .before .before .before .before .before .before .before .before .before .before .before .if1 .left) (c .before .before .before .before .before .before .before .before .before .before .before .before .before .before .before .before .before .any-stale .ensures) (c .before .before .before .before .before .before .before .before .before .before .before .before .before .before .before .before .if2 .left) (c .enum-told .given .1) (c .before .before .before .before .commit-chosen .ensures)
+    commit-nothing (a .store .now) (a .copy .now) (a .stamp) (a .mask) (c .before .before .before .before .before .before .before .before .before .before .before .before .before .before .before .before .before .before .before .before .if1 .left) (c .enum-told .given .1) (c .before .before .before .before .commit-chosen .ensures)
 
 same-length-5 : tie.Need-same-length-5
 same-length-5 c = search needs
@@ -85,7 +79,7 @@ same-length-6 c = search needs
 returns-4 : tie.Need-returns-4
 returns-4 c =
     let a = c .before .before .before .before .before .before .before .before .before .before .before .before .before .before .before .before .before .before .before .before .before .before .before .args in
-    commit-no-room (a .store .now) (a .copy .now) (a .stamp) (a .mask) (c .before .before .before .before .before .before .before .before .before .before .before .before .before .before .before .before .before .before .before .before .if1 .left) (c .before .before .before .before .before .before .before .before .before .before .before .before .before .before .before .before .before .any-stale .ensures) (c .before .before .before .before .before .before .before .before .before .before .before .before .before .before .before .before .if2 .left) (c .enum-told2 .given .1) (c .before .before .before .before .commit-chosen .ensures)
+    commit-no-room (a .store .now) (a .copy .now) (a .stamp) (a .mask) (c .before .before .before .before .before .before .before .before .before .before .before .before .before .before .before .before .before .before .before .before .if1 .left) (c .before .before .before .before .before .before .before .before .before .before .before .before .before .before .before .before .before .any-stale .ensures) (c .before .before .before .before .before .before .before .before .before .before .before .before .before .before .before .before .if2 .left) (c .before .before .before .before .commit-chosen .ensures) (c .enum-told2 .given .1)
 
 same-length-7 : tie.Need-same-length-7
 same-length-7 c = search needs
@@ -97,7 +91,7 @@ returns-5 : tie.Need-returns-5
 returns-5 c =
     let k = c .before .before .before .before .before .before .before .before .before .before .before .before .before .before .before .before .before .before .before .before .before .before .before .before .before .before .before .before in
     let a = k .args in
-    commit-done (a .store .now) (a .copy .now) (a .stamp) (a .mask) (c .before .before .before .before .before .before .before .before .before .before .before .before .before .before .before .before .before .before .before .before .before .before .before .before .before .if1 .left) (c .before .before .before .before .before .before .before .before .before .before .before .before .before .before .before .before .before .before .before .before .before .before .any-stale .ensures) (c .before .before .before .before .before .before .before .before .before .before .before .before .before .before .before .before .before .before .before .before .before .if2 .left) (c .before .before .before .before .before .enum-told3 .given .1) (c .before .before .before .before .before .before .before .before .before .commit-chosen .ensures)
+    commit-done (a .store .now) (a .copy .now) (a .stamp) (a .mask) (c .before .before .before .before .before .before .before .before .before .before .before .before .before .before .before .before .before .before .before .before .before .before .before .before .before .if1 .left) (c .before .before .before .before .before .before .before .before .before .before .before .before .before .before .before .before .before .before .before .before .before .before .any-stale .ensures) (c .before .before .before .before .before .before .before .before .before .before .before .before .before .before .before .before .before .before .before .before .before .if2 .left) (c .before .before .before .before .before .before .before .before .before .commit-chosen .ensures) (c .before .before .before .before .before .enum-told3 .given .1)
     (next-is (a .store .now) (a .copy .now) (a .v) (k .pre)) (left-committed (a .store .now) (a .copy .now) (a .v) (k .pre) (c .before .before .before .before .before .before .before .before .before .before .before .before .before .before .before .before .before .before .note-flags .ensures) (c .before .before .settle .ensures))
 
 pub commit-spec : {M : Type 1} → statement M

@@ -1,15 +1,9 @@
 -- `filing::settle_one` meets its contract.
 -- Assumes nothing.
-use Rattle.filing.proofs.Settling.{settle-leaves, settle-put}
-use native.Mathlib.Omega.{arith}
 use borrow.Author.Needs.{needs}
+use Rattle.filing.proofs.Settling.{settle-leaves, settle-put}
 use Rattle.filing.proofs.settle_one.Statement.{statement}
 use Rattle.filing.proofs.settle_one.Tie as tie
-use Rattle.filing.proofs.settle_one.Reads as reads
-use Rattle.filing.proofs.settle_one.Lts as lts
-use Rattle.filing.proofs.settled_state.Reads as settled-state-reads
-use Rattle.workcopy.proofs.entry_at.Reads as entry-at-reads
-use Rattle.workcopy.proofs.set_entry.Reads as set-entry-reads
 
 entry-at-requires : tie.Need-entry-at-requires
 entry-at-requires c κs = search needs

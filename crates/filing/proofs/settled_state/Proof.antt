@@ -1,12 +1,9 @@
 -- `filing::settled_state` meets its contract, state by state.
 -- Assumes nothing.
-use Rattle.filing.proofs.Settling.{state-as, state-renewed, state-stays}
-use native.Mathlib.Omega.{arith}
 use borrow.Author.Needs.{needs}
+use Rattle.filing.proofs.Settling.{state-as, state-renewed, state-stays}
 use Rattle.filing.proofs.settled_state.Statement.{statement}
 use Rattle.filing.proofs.settled_state.Tie as tie
-use Rattle.filing.proofs.settled_state.Reads as reads
-use Rattle.filing.proofs.settled_state.Lts as lts
 
 enum-told : tie.Need-enum-told
 enum-told c = search needs
