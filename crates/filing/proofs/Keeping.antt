@@ -81,8 +81,7 @@ module _ (store copy : Bytes) (v : View) (F : Fitting store copy v) where
       let k : ℕ = blocksFor (d .history) (commitChanges (d .history) mask (d .entries)) in
       let u : d .used + k ≡ v .used + k = omega (arith, O .accepted .inUse) in
       let l : last (d .history ++ (newCommit d stamp mask ∷ [])) ≡ v .last + 1 = length-append (d .history) (newCommit d stamp mask ∷ []) ∙ omega (arith, O .last) in
-      let R≡ : R ≡ suc (last (d .history)) = cc in
-      (
+      let R≡ : R ≡ suc (last (d .history)) = cc in (
         seen-view (blockCount store) store′ copy′ (committing d stamp mask) E ∙ (λ i. record { n = sym (O .accepted .count) i; used = u i; last = l i; seat = sym (F .seat) i }),
         omega (arith, R≡, O .last),
       )

@@ -63,12 +63,12 @@ module _ (store copy : Bytes) (mask : ℕ) where
       spots = length-set places t p ∙ N .spots;
       each = λ i gi on off. elim (eq-or i t) [
         | inl e ↦ subst (λ (i : ℕ). RightAt store i (entryIn copy i) (getD (set changed t n) i 0) (getD (set places t p) i 0)) (sym e)
-        (right-at store t (entryIn copy t) (getD-set-same changed t n 0 (omega (arith, N .flags)) ∙ q) (getD-set-same places t p 0 (omega (arith, N .spots)) ∙ w))
+            (right-at store t (entryIn copy t) (getD-set-same changed t n 0 (omega (arith, N .flags)) ∙ q) (getD-set-same places t p 0 (omega (arith, N .spots)) ∙ w))
         | inr ne ↦ (
-          let a : getD (set changed t n) i 0 ≡ getD changed i 0 = getD-set-other changed t i n 0 ne in
-          let b : getD (set places t p) i 0 ≡ getD places i 0 = getD-set-other places t i p 0 ne in
-          rw (a, b) (N .each i gi on (sym (chosen-other L i ne) ∙ off))
-        )
+            let a : getD (set changed t n) i 0 ≡ getD changed i 0 = getD-set-other changed t i n 0 ne in
+            let b : getD (set places t p) i 0 ≡ getD places i 0 = getD-set-other places t i p 0 ne in
+            rw (a, b) (N .each i gi on (sym (chosen-other L i ne) ∙ off))
+            )
       ];
     }
 

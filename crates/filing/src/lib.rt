@@ -67,7 +67,9 @@ fn place_of<'a>(store: &'a [u8], copy: &'a [u8], v: View, k: usize) -> u16
         State::Added => 0,
         State::Deleted(_) => 0,
         State::Copied(s) => {
-            let f = search::look_up(store, v.n, v.used, s.revision as usize, s.sheet as usize);
+            let r = s.revision as usize;
+            let i = s.sheet as usize;
+            let f = search::look_up(store, v.n, v.used, r, i);
             f.block as u16
         }
     }
@@ -161,7 +163,17 @@ pub fn commit(store: &mut [u8], copy: &mut [u8], v: View, stamp: u32, mask: u32)
     let places = flags.places;
     let next = v.last + 1;
     let seat = v.seat as u8;
-    let o = commits::commit_chosen(store, v.used, next, seat, stamp, mask, copy, &changed, &places);
+    let o = commits::commit_chosen(
+        store,
+        v.used,
+        next,
+        seat,
+        stamp,
+        mask,
+        copy,
+        &changed,
+        &places,
+    );
     match o {
         Outcome::Nothing => Answer::Refused(Refusal::NothingPending),
         Outcome::NoRoom => Answer::Refused(Refusal::NoRoom),

@@ -24,11 +24,11 @@ enum-told-4 c = search needs
 enum-known-state : tie.Need-enum-known-state
 enum-known-state c = search needs
 
-cast-look-up : tie.Need-cast-look-up
-cast-look-up c = search needs
+cast-r : tie.Need-cast-r
+cast-r c = search needs
 
-cast-look-up-2 : tie.Need-cast-look-up-2
-cast-look-up-2 c = search needs
+cast-i : tie.Need-cast-i
+cast-i c = search needs
 
 look-up-requires : tie.Need-look-up-requires
 look-up-requires c κs =
@@ -70,8 +70,8 @@ place-of-spec =
     enum-told-3
     enum-told-4
     enum-known-state
-    cast-look-up
-    cast-look-up-2
+    cast-r
+    cast-i
     look-up-requires
     cast-result
     returns
