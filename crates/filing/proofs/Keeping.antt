@@ -29,13 +29,14 @@ use Rattle.entries.specs.View.{Fitting, checkOf, checkedBy, viewOf}
 use Rattle.entries.specs.declared.View.{View}
 use Rattle.filing.specs.Inner.{innerOut, outAs}
 
+-- buffers that no line from 1 to 6 refuses fit, with the numbers that they state
 accepted-fitting : (store copy : Bytes) → Accepted store copy → Fitting store copy (viewOf store copy)
 unfolding checkOf
 accepted-fitting store copy A =
     let c = clear-first (storeConditions store) (copyConditions store copy) (clear (storeConditions store) (A .storeTaken)) in
     check-ready store copy (viewOf store copy) (ap (λ (o : Option ℕ). checkedBy o (viewOf store copy)) (c ∙ A .copyTaken))
 
--- the view that shows a side
+-- the numbers of a side, and buffers that hold it state them
 abbrev viewAs : Side → View
 viewAs d = record { n = d .blocks; used = d .used; last = last (d .history); seat = d .seat }
 
@@ -63,7 +64,7 @@ module _ (store copy : Bytes) (v : View) (F : Fitting store copy v) where
       (sym (clear-first (storeConditions store) (copyConditions store copy ++ cs) (clear (storeConditions store) (taken .storeTaken))
       ∙ clear-first (copyConditions store copy) cs (clear (copyConditions store copy) (taken .copyTaken))))
 
-  -- with a commit of the chosen entries
+  -- the numbers with a commit of the chosen entries
   abbrev pub grownView : ℕ → View
   grownView mask = record {
     n = v .n;
