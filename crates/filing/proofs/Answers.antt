@@ -75,30 +75,32 @@ module _ (store copy : Bytes) (stamp mask : ℕ) where
   pub commit-none : mask ≡ 0 → outAs (Refused Range) store copy ≡ innerOut store copy (Commits stamp mask)
   commit-none z = refused-is Range (rw (eq-eqb mask 0 z))
 
-  module _ (n : mask ≡ 0 → ⊥) {b : Bool} (q : b ≡ someStale d mask) where
-    pub commit-stale : b ≡ true → outAs (Refused OutOfDate) store copy ≡ innerOut store copy (Commits stamp mask)
-    commit-stale z =
-        let s : someStale d mask ≡ true = sym q ∙ z in
-        refused-is OutOfDate (rw (ne-eqb mask 0 n, stale-chosen d mask s, s))
+  module _ (n : mask ≡ 0 → ⊥) where
+    pub commit-nothing : {o : Outcome} {store′ : Bytes} → o ≡ Nothing → Answered store copy store′ stamp mask o
+        → outAs (Refused NothingPending) store′ copy ≡ innerOut store copy (Commits stamp mask)
+    commit-nothing {store′ = store′} e A =
+        let t = told-nothing store copy store′ stamp mask (subst (Answered store copy store′ stamp mask) e A) in
+        ap (λ (x : Bytes). outAs (Refused NothingPending) x copy) (t .1) ∙ refused-is NothingPending (rw (ne-eqb mask 0 n, t .0))
 
-    module _ (z : b ≡ false) {store′ : Bytes} where
-      pub commit-nothing : {o : Outcome} → o ≡ Nothing → Answered store copy store′ stamp mask o → outAs (Refused NothingPending) store′ copy ≡ innerOut store copy (Commits stamp mask)
-      commit-nothing e A =
-          let t = told-nothing store copy store′ stamp mask (subst (Answered store copy store′ stamp mask) e A) in
-          ap (λ (x : Bytes). outAs (Refused NothingPending) x copy) (t .1) ∙ refused-is NothingPending (rw (ne-eqb mask 0 n, t .0))
+    module _ {b : Bool} (q : b ≡ someStale d mask) where
+      pub commit-stale : b ≡ true → outAs (Refused OutOfDate) store copy ≡ innerOut store copy (Commits stamp mask)
+      commit-stale z =
+          let s : someStale d mask ≡ true = sym q ∙ z in
+          refused-is OutOfDate (rw (ne-eqb mask 0 n, stale-chosen d mask s, s))
 
-      pub commit-no-room : {o : Outcome} → o ≡ NoRoom → Answered store copy store′ stamp mask o → outAs (Refused NoSpace) store′ copy ≡ innerOut store copy (Commits stamp mask)
-      commit-no-room e A =
-          let t = told-no-room store copy store′ stamp mask (subst (Answered store copy store′ stamp mask) e A) in
-          ap (λ (x : Bytes). outAs (Refused NoSpace) x copy) (t .2) ∙ refused-is NoSpace (rw (ne-eqb mask 0 n, t .0, sym q ∙ z, t .1))
+      module _ (z : b ≡ false) {o : Outcome} {store′ : Bytes} (A : Answered store copy store′ stamp mask o) where
+        pub commit-no-room : o ≡ NoRoom → outAs (Refused NoSpace) store′ copy ≡ innerOut store copy (Commits stamp mask)
+        commit-no-room e =
+            let t = told-no-room store copy store′ stamp mask (subst (Answered store copy store′ stamp mask) e A) in
+            ap (λ (x : Bytes). outAs (Refused NoSpace) x copy) (t .2) ∙ refused-is NoSpace (rw (ne-eqb mask 0 n, t .0, sym q ∙ z, t .1))
 
-      pub commit-done : {o : Outcome} {u R : ℕ} {copy′ : Bytes} → o ≡ Done u → Answered store copy store′ stamp mask o → R ≡ suc (last (storeHistory store))
-          → copy′ ≡ copyBytes (seatOf copy) (committed (storeHistory store) mask (entriesOf copy)) → outAs (TheRevision R) store′ copy′ ≡ innerOut store copy (Commits stamp mask)
-      unfolding innerOut
-      commit-done {u = u} e A r w =
-          let t = told-done store copy store′ stamp mask u (subst (Answered store copy store′ stamp mask) e A) in
-          let k : firstOf (conditions d (Commits stamp mask)) ≡ none = rw (ne-eqb mask 0 n, t .0, sym q ∙ z, t .1) in
-          (λ i. outAs (TheRevision (r i)) (t .3 i) (w i)) ∙ sym (ap (λ (o : Option ℕ). changeBy o store copy (Commits stamp mask)) k)
+        pub commit-done : {u R : ℕ} {copy′ : Bytes} → o ≡ Done u → R ≡ suc (last (storeHistory store))
+            → copy′ ≡ copyBytes (seatOf copy) (committed (storeHistory store) mask (entriesOf copy)) → outAs (TheRevision R) store′ copy′ ≡ innerOut store copy (Commits stamp mask)
+        unfolding innerOut
+        commit-done {u} e r w =
+            let t = told-done store copy store′ stamp mask u (subst (Answered store copy store′ stamp mask) e A) in
+            let k : firstOf (conditions d (Commits stamp mask)) ≡ none = rw (ne-eqb mask 0 n, t .0, sym q ∙ z, t .1) in
+            (λ i. outAs (TheRevision (r i)) (t .3 i) (w i)) ∙ sym (ap (λ (o : Option ℕ). changeBy o store copy (Commits stamp mask)) k)
 
 -- ---- what the steps ask for
 

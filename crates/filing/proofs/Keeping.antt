@@ -28,13 +28,14 @@ use Rattle.entries.proofs.Checking.{check-ready, fitting-accepted, inner-call}
 use Rattle.entries.specs.View.{Fitting, checkOf, checkedBy, innerOut, outAs, viewOf}
 use Rattle.entries.specs.declared.View.{View}
 
+-- buffers that no line from 1 to 6 refuses fit, with the numbers that they state
 accepted-fitting : (store copy : Bytes) → Accepted store copy → Fitting store copy (viewOf store copy)
 unfolding checkOf
 accepted-fitting store copy A =
     let c = clear-first (storeConditions store) (copyConditions store copy) (clear (storeConditions store) (A .storeTaken)) in
     check-ready store copy (viewOf store copy) (ap (λ (o : Option ℕ). checkedBy o (viewOf store copy)) (c ∙ A .copyTaken))
 
--- the view that shows a side
+-- the numbers of a side, and buffers that hold it state them
 abbrev viewAs : Side → View
 viewAs d = record { n = d .blocks; used = d .used; last = last (d .history); seat = d .seat }
 
@@ -53,7 +54,7 @@ module _ (store copy : Bytes) (v : View) (F : Fitting store copy v) where
   abbrev taken : Accepted store copy
   taken = fitting-accepted store copy v F
 
-  -- with a commit of the chosen entries
+  -- the numbers with a commit of the chosen entries
   abbrev pub grownView : ℕ → View
   grownView mask = record {
     n = v .n;

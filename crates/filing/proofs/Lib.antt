@@ -1,3 +1,4 @@
+-- The laws on the commit of a working copy that fits.
 pub mod Looking
 pub mod Noting
 pub mod Settling

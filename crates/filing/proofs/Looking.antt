@@ -29,17 +29,17 @@ use Rattle.masks.proofs.Visits.{any-here, any-next, any-none, anyChosen}
 use Rattle.search.specs.Find.{foundIn}
 use Rattle.search.specs.declared.Found.{Found}
 use Rattle.workcopy.proofs.Entries.{held}
-use Rattle.workcopy.specs.Copy.{Reading, bytesIn}
+use Rattle.workcopy.specs.Copy.{Accepted, Reading, bytesIn}
 
 -- ---- an entry that is out of date, among the chosen
-module _ (store copy : Bytes) (v : View) (F : Fitting store copy v) where
+module _ (store copy : Bytes) where
   abbrev staleAt : ℕ → Entry → Bool
   staleAt i e = outOfDate (storeHistory store) i e
 
-  module _ {m t : ℕ} (L : Lowest m t) (g : t < 32) {b : Bool} (q : b ≡ staleAt t (entryIn copy t)) where
+  module _ (o : Accepted copy) {m t : ℕ} (L : Lowest m t) (g : t < 32) {b : Bool} (q : b ≡ staleAt t (entryIn copy t)) where
     inside : t < length (entriesOf copy)
     unfolding HoldsCopy
-    inside = omega (arith, held copy (F .viewed .accepted) .0)
+    inside = omega (arith, held copy o .0)
 
     pub stale-here : b ≡ true → true ≡ anyChosen staleAt m (entriesOf copy)
     stale-here z = sym (any-here staleAt L empty (entriesOf copy) inside (sym q ∙ z))
@@ -51,7 +51,7 @@ module _ (store copy : Bytes) (v : View) (F : Fitting store copy v) where
   stale-none z = sym (ap (λ (n : ℕ). anyChosen staleAt n (entriesOf copy)) z ∙ any-none staleAt (entriesOf copy))
 
 -- ---- one entry
-module _ (store copy : Bytes) (v : View) (F : Fitting store copy v) {k : ℕ} {e : TheEntry} (r : Reading copy k e) where
+module _ (store copy : Bytes) {k : ℕ} {e : TheEntry} (r : Reading copy k e) where
   abbrev h : History
   h = storeHistory store
 
@@ -65,22 +65,23 @@ module _ (store copy : Bytes) (v : View) (F : Fitting store copy v) {k : ℕ} {e
   source-as q = sym (ap (sourceBlock store) (as-read r q))
 
   module _ {s : Source} (q : e .state ≡ Copied s) where
-    source-there : (s .sheet ≤ 31) × Base h (s .revision) (s .sheet)
-    source-there = let f = subst (FitsAt h k) (as-read r q) (accepted-kept store copy (fitting-accepted store copy v F) .fits k) in (f .0, f .1)
-
-    pub source-sheet : s .sheet < 32
-    source-sheet = omega (arith, source-there .0)
-
-    pub source-near : s .revision ≤ v .last
-    source-near = omega (arith, source-there .1 .high, F .viewed .opened .last)
-
     pub altered-copied : {t : Bool} → t ≡ not (isBytes (bytesOf copy k) (sheet h (s .revision) (s .sheet))) → t ≡ altered h k (entryIn copy k)
     altered-copied z = z ∙ ap (λ (y : Entry). not (isBytes (orNone (ownBytes y)) (sheet h (s .revision) (s .sheet)))) (as-read r q) ∙ altered-as q
 
-    module _ {f : Found} (w : f ≡ foundIn store (s .revision) (s .sheet)) where
-      pub source-small : f .block < 65_536
-      source-small =
-          omega (arith, found-inside store v (F .viewed .opened) (s .revision) (s .sheet) source-near w, accepted-seen store copy (fitting-accepted store copy v F) .many)
+    pub source-found : {f : Found} → f ≡ foundIn store (s .revision) (s .sheet) → f .block ≡ sourceBlock store (entryIn copy k)
+    source-found w = ap (λ (f : Found). f .block) w ∙ source-as q
 
-      pub source-found : f .block ≡ sourceBlock store (entryIn copy k)
-      source-found = ap (λ (f : Found). f .block) w ∙ source-as q
+    -- its source is there
+    module _ (v : View) (F : Fitting store copy v) where
+      source-there : (s .sheet ≤ 31) × Base h (s .revision) (s .sheet)
+      source-there = let f = subst (FitsAt h k) (as-read r q) (accepted-kept store copy (fitting-accepted store copy v F) .fits k) in (f .0, f .1)
+
+      pub source-sheet : s .sheet < 32
+      source-sheet = omega (arith, source-there .0)
+
+      pub source-near : s .revision ≤ v .last
+      source-near = omega (arith, source-there .1 .high, F .viewed .opened .last)
+
+      pub source-small : {f : Found} → f ≡ foundIn store (s .revision) (s .sheet) → f .block < 65_536
+      source-small w =
+          omega (arith, found-inside store v (F .viewed .opened) (s .revision) (s .sheet) source-near w, accepted-seen store copy (fitting-accepted store copy v F) .many)

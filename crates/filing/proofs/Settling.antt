@@ -6,9 +6,9 @@ use mathlib.Core.List.{List, [], _∷_}
 use mathlib.Core.Path.{_∙_, _≡_, ap, ap₂, refl, subst, sym}
 use native.Mathlib.Nat.{add-zero, zero-add}
 use native.Mathlib.Omega.{arith}
-use borrow.Author.Tests.{eq-eqb, ne-eqb}
 use lib.Dec.{eqb}
 use lib.ListN.{getD, length, set}
+use lib.Seq.{set-getD}
 use Rattle.block.specs.Buffer.{blockAt}
 use Rattle.model.specs.Entry.{Entry, added, changeFor, copied, deleted, empty, normal}
 use Rattle.model.specs.History.{Bytes, change, last, nothing}
@@ -24,7 +24,7 @@ use Rattle.laws.proofs.Rows.{cond-any}
 use Rattle.laws.proofs.WorkCopy.{holds-copy}
 use Rattle.commits.specs.Outcome.{RightAt, RightFlags}
 use Rattle.entries.specs.View.{entryIn}
-use Rattle.filing.specs.Inner.{Settling, settledAs, settledRows, settledState}
+use Rattle.filing.specs.Inner.{Settling, settledAs, settledRows, settledState, staysAs}
 use Rattle.masks.proofs.Bits.{Lowest, cleared-lt}
 use Rattle.masks.proofs.Visits.{rows-still, rows-visit}
 use Rattle.masks.specs.Mask.{atChosen}
@@ -33,16 +33,9 @@ use Rattle.workcopy.specs.Copy.{Accepted, Carries, PutOk, Reading, bytesIn}
 
 -- ---- one entry
 
--- the code's state
-module _ (R flag : ℕ) {s : State} where
-  pub state-as : {t : State} → s ≡ t → settledState R flag t ≡ settledState R flag s
-  state-as q = sym (ap (settledState R flag) q)
-
-  pub state-stays : {b : ℕ} → s ≡ Normal b → flag ≡ 0 → Normal b ≡ settledState R flag s
-  state-stays {b} q z = ap (λ (c : Bool). Normal (cond c b R)) (sym (eq-eqb flag 0 z)) ∙ state-as q
-
-  pub state-renewed : {b : ℕ} → s ≡ Normal b → (flag ≡ 0 → ⊥) → Normal R ≡ settledState R flag s
-  state-renewed {b} q n = ap (λ (c : Bool). Normal (cond c b R)) (sym (ne-eqb flag 0 n)) ∙ state-as q
+-- a copy is that of its entries
+same-copy : (copy : Bytes) → Accepted copy → copy ≡ copyBytes (seatOf copy) (entriesOf copy)
+same-copy copy a = sym (holds-copy copy (seatOf copy) (entriesOf copy) (held copy a) .4)
 
 settle-fits : (R flag : ℕ) (e : Entry) → 1 ≤ R → R < 65_536 → FitsCopyBlock (entryBlock e) → FitsCopyBlock (entryBlock (settledAs R flag e))
 settle-fits R flag empty lo hi f = tt
@@ -52,44 +45,59 @@ settle-fits R flag (deleted b) lo hi f = tt
 settle-fits R flag (copied s r x) lo hi f = ((lo, hi), f .2)
 
 module _ {copy : Bytes} {R : ℕ} (S : Settling copy R) {k : ℕ} (g : k < 32) where
-  pub still-fits : (flag : ℕ) → FitsCopyBlock (entryBlock (settledAs R flag (entryIn copy k)))
+  still-fits : (flag : ℕ) → FitsCopyBlock (entryBlock (settledAs R flag (entryIn copy k)))
   still-fits flag = settle-fits R flag (entryIn copy k) (S .low) (S .high) (entry-fits copy (S .accepted) k g)
 
-  module _ (flag : ℕ) {e : TheEntry} (r : Reading copy k e) {s : State} (z : s ≡ settledState R flag (e .state)) where
+  module _ (flag : ℕ) {e : TheEntry} (r : Reading copy k e) {b : Bool} (q : b ≡ staysAs flag (e .state)) where
     abbrev own : Bytes
     own = bytesIn e (blockAt copy (k + 1))
 
-    settle-is : entryAs s own ≡ settledAs R flag (entryIn copy k)
-    settle-is = ap (λ (s : State). entryAs s own) z ∙ settled-as (e .state) ∙ ap (settledAs R flag) (r .means)
+    -- it stays
+    pub settle-stays : b ≡ true → copy ≡ copyBytes (seatOf copy) (set (entriesOf copy) k (settledAs R flag (entryIn copy k)))
+    settle-stays z =
+        let s : settledAs R flag (entryIn copy k) ≡ entryIn copy k = ap (settledAs R flag) (sym (r .means)) ∙ same (e .state) (sym q ∙ z) ∙ r .means in
+        same-copy copy (S .accepted) ∙ ap (copyBytes (seatOf copy)) (sym (ap (set (entriesOf copy) k) s ∙ set-getD (entriesOf copy) k empty))
       where
-        settled-as : (s : State) → entryAs (settledState R flag s) own ≡ settledAs R flag (entryAs s own)
-        settled-as Empty = refl
-        settled-as (Normal b) = refl
-        settled-as Added = refl
-        settled-as (Deleted b) = refl
-        settled-as (Copied s) = refl
+        same : (s : State) → staysAs flag s ≡ true → settledAs R flag (entryAs s own) ≡ entryAs s own
+        same Empty z = refl
+        same (Normal b) z = rw z
+        same Added z = let w : _≡_ {A = ℕ} 0 1 = cc in absurd (omega arith)
+        same (Deleted b) z = let w : _≡_ {A = ℕ} 0 1 = cc in absurd (omega arith)
+        same (Copied s) z = let w : _≡_ {A = ℕ} 0 1 = cc in absurd (omega arith)
 
-    pub settle-put : PutOk copy k (record { state = s; len = e .len }) own
-    settle-put = record {
-      copy = S .accepted;
-      inside = g;
-      fit = record {
-        whole = r .whole;
-        carries = subst (λ (s : State). Carries s (e .len)) (sym z) (carried (e .state) (r .carries));
-        fits = subst (λ (y : Entry). FitsCopyBlock (entryBlock y)) (sym settle-is) (still-fits flag);
-      };
-    }
-      where
-        carried : (s : State) → Carries s (e .len) → Carries (settledState R flag s) (e .len)
-        carried Empty c = c
-        carried (Normal b) c = tt
-        carried Added c = tt
-        carried (Deleted b) c = c
-        carried (Copied s) c = tt
+    -- or it is named
+    module _ (off : b ≡ false) {s : State} (z : s ≡ settledState R (e .state)) where
+      settle-is : entryAs s own ≡ settledAs R flag (entryIn copy k)
+      settle-is = ap (λ (s : State). entryAs s own) z ∙ renewed (e .state) (sym q ∙ off) ∙ ap (settledAs R flag) (r .means)
+        where
+          renewed : (s : State) → staysAs flag s ≡ false → entryAs (settledState R s) own ≡ settledAs R flag (entryAs s own)
+          renewed Empty z = refl
+          renewed (Normal b) z = rw z
+          renewed Added z = refl
+          renewed (Deleted b) z = refl
+          renewed (Copied s) z = refl
 
-    pub settle-leaves : {t : Bytes} → t ≡ copyBytes (seatOf copy) (set (entriesOf copy) k (entryAs s own))
-        → t ≡ copyBytes (seatOf copy) (set (entriesOf copy) k (settledAs R flag (entryIn copy k)))
-    settle-leaves w = w ∙ ap (λ (y : Entry). copyBytes (seatOf copy) (set (entriesOf copy) k y)) settle-is
+      pub settle-put : PutOk copy k (record { state = s; len = e .len }) own
+      settle-put = record {
+        copy = S .accepted;
+        inside = g;
+        fit = record {
+          whole = r .whole;
+          carries = subst (λ (s : State). Carries s (e .len)) (sym z) (carried (e .state) (r .carries));
+          fits = subst (λ (y : Entry). FitsCopyBlock (entryBlock y)) (sym settle-is) (still-fits flag);
+        };
+      }
+        where
+          carried : (s : State) → Carries s (e .len) → Carries (settledState R s) (e .len)
+          carried Empty c = c
+          carried (Normal b) c = tt
+          carried Added c = tt
+          carried (Deleted b) c = c
+          carried (Copied s) c = tt
+
+      pub settle-leaves : {t : Bytes} → t ≡ copyBytes (seatOf copy) (set (entriesOf copy) k (entryAs s own))
+          → t ≡ copyBytes (seatOf copy) (set (entriesOf copy) k (settledAs R flag (entryIn copy k)))
+      settle-leaves w = w ∙ ap (λ (y : Entry). copyBytes (seatOf copy) (set (entriesOf copy) k y)) settle-is
 
 -- ---- the chosen entries: those that m chooses are left to settle
 
@@ -128,7 +136,7 @@ module _ {R : ℕ} {changed : List ℕ} {mask : ℕ} {first copy : Bytes} {m : �
   doing-end z =
       let e : entriesOf copy ≡ settledRows R changed mask (entriesOf first) =
       sym (rows-still (settleAt R changed) (entriesOf copy)) ∙ ap (λ (n : ℕ). settledRows R changed n (entriesOf copy)) (sym z) ∙ D .left in
-      sym (holds-copy copy (seatOf copy) (entriesOf copy) (held copy (D .settling .accepted)) .4) ∙ (λ i. copyBytes (D .seat i) (e i))
+      same-copy copy (D .settling .accepted) ∙ (λ i. copyBytes (D .seat i) (e i))
 
 -- ---- in the machine's words
 

@@ -1,7 +1,7 @@
 -- What the inner commit leaves, on an accepted store and a working copy that fits it; what its steps find out of an entry and make of it.
 -- Assumes nothing.
 use Prim.Native.Nat.{_<_, _≤_, ℕ}
-use mathlib.Core.Bool.{Bool, cond, false, not}
+use mathlib.Core.Bool.{Bool, cond, false, not, true}
 use mathlib.Core.List.{List}
 use lib.Dec.{eqb}
 use lib.ListN.{getD}
@@ -38,12 +38,20 @@ settledAs R flag (added x) = normal R x
 settledAs R flag (deleted b) = empty
 settledAs R flag (copied s r x) = normal R x
 
-abbrev pub settledState : ℕ → ℕ → State → State
-settledState R flag Empty = Empty
-settledState R flag (Normal b) = Normal (cond (eqb flag 0) b R)
-settledState R flag Added = Normal R
-settledState R flag (Deleted b) = Empty
-settledState R flag (Copied s) = Normal R
+-- the code's state: whether it stays, and else what it becomes
+abbrev pub staysAs : ℕ → State → Bool
+staysAs flag Empty = true
+staysAs flag (Normal b) = eqb flag 0
+staysAs flag Added = false
+staysAs flag (Deleted b) = false
+staysAs flag (Copied s) = false
+
+abbrev pub settledState : ℕ → State → State
+settledState R Empty = Empty
+settledState R (Normal b) = Normal R
+settledState R Added = Normal R
+settledState R (Deleted b) = Empty
+settledState R (Copied s) = Normal R
 
 -- of each chosen entry
 abbrev pub settledRows : ℕ → List ℕ → ℕ → List Entry → List Entry

@@ -1,1 +1,2 @@
+-- The definitions that the contracts of `filing` cite.
 pub mod Inner

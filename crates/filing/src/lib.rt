@@ -11,7 +11,7 @@ ghost use mathlib.Core.Path.{_≡_};
 ghost use lib.ListN.{length, set};
 ghost use Rattle.commits.specs.Outcome.{RightFlags};
 ghost use Rattle.entries.specs.View.{Fitting, entryIn};
-ghost use Rattle.filing.specs.Inner.{Settling, altered, settledAs, settledRows, settledState, sourceBlock};
+ghost use Rattle.filing.specs.Inner.{Settling, altered, settledAs, settledRows, settledState, sourceBlock, staysAs};
 ghost use Rattle.entries.specs.View.{innerOut, outAs};
 ghost use Rattle.model.specs.Calls.{sideIn};
 ghost use Rattle.model.specs.Machine.{Commits};
@@ -68,7 +68,9 @@ fn place_of<'a>(store: &'a [u8], copy: &'a [u8], v: View, k: usize) -> u16
         State::Added => 0,
         State::Deleted(_) => 0,
         State::Copied(s) => {
-            let f = search::look_up(store, v.n, v.used, s.revision as usize, s.sheet as usize);
+            let r = s.revision as usize;
+            let i = s.sheet as usize;
+            let f = search::look_up(store, v.n, v.used, r, i);
             f.block as u16
         }
     }
@@ -101,18 +103,26 @@ fn note_flags<'a>(store: &'a [u8], copy: &'a [u8], v: View, mask: u32) -> Flags
 
 // ---- what is left in the copy
 
-// The state after the commit of a chosen entry.
-fn settled_state(s: State, revision: u32, flag: u8) -> State
-    ensures { λ r. ⌜ r ≡ settledState revision flag s ⌝ }
+// Whether a chosen entry stays as it is: it is not pending.
+fn stays(s: State, flag: u8) -> bool
+    ensures { λ r. ⌜ r ≡ staysAs flag s ⌝ }
+{
+    match s {
+        State::Empty => true,
+        State::Normal(_) => flag == 0,
+        State::Added => false,
+        State::Deleted(_) => false,
+        State::Copied(_) => false,
+    }
+}
+
+// The state of a pending entry after the commit.
+fn settled_state(s: State, revision: u32) -> State
+    ensures { λ r. ⌜ r ≡ settledState revision s ⌝ }
 {
     match s {
         State::Empty => State::Empty,
-        State::Normal(base) => {
-            if flag == 0 {
-                return State::Normal(base);
-            }
-            State::Normal(revision)
-        }
+        State::Normal(_) => State::Normal(revision),
         State::Added => State::Normal(revision),
         State::Deleted(_) => State::Empty,
         State::Copied(_) => State::Normal(revision),
@@ -127,7 +137,10 @@ fn settle_one(copy: &mut [u8], k: usize, revision: u32, flag: u8)
     let e = workcopy::entry_at(copy, k);
     let len = e.len;
     let was = e.state;
-    let state = settled_state(was, revision, flag);
+    if stays(was, flag) {
+        return;
+    }
+    let state = settled_state(was, revision);
     workcopy::set_entry(copy, k, Entry { state, len });
 }
 
@@ -160,7 +173,8 @@ pub fn commit(store: &mut [u8], copy: &mut [u8], v: View, stamp: u32, mask: u32)
     let flags = note_flags(store, copy, v, mask);
     let changed = flags.changed;
     let places = flags.places;
-    let next = v.last + 1;
+    let last = v.last;
+    let next = last + 1;
     let seat = v.seat as u8;
     let o = commits::commit_chosen(
         store,

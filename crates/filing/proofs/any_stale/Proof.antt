@@ -2,21 +2,17 @@
 -- Assumes nothing.
 use Prim.Native.Nat.{_<_, _^_}
 use mathlib.Core.Path.{_∙_, _≡_, refl}
+use native.Mathlib.Omega.{arith}
 use lib.Count.{trailingZeros}
-use Rattle.masks.proofs.Bits.{Lowest, and-cleared, cleared-lt, lowest}
-use Rattle.masks.proofs.Visits.{anyChosen}
 use Rattle.model.specs.Calls.{sideIn}
 use Rattle.model.specs.Refusals.{outOfDate, someStale}
 use Rattle.model.specs.Store.{storeHistory}
 use Rattle.model.specs.WorkCopy.{entriesOf}
 use Rattle.filing.proofs.Looking.{stale-here, stale-next, stale-none}
-use borrow.Author.Needs.{needs}
-use native.Mathlib.Omega.{arith}
 use Rattle.filing.proofs.any_stale.Statement.{statement}
+use Rattle.masks.proofs.Bits.{Lowest, and-cleared, cleared-lt, lowest}
+use Rattle.masks.proofs.Visits.{anyChosen}
 use Rattle.filing.proofs.any_stale.Tie as tie
-use Rattle.filing.proofs.any_stale.Reads as reads
-use Rattle.filing.proofs.any_stale.Lts as lts
-use Rattle.entries.proofs.is_stale.Reads as is-stale-reads
 
 abbrev Inv-loop : tie.InvT-loop
 Inv-loop store copy v mask m₀ m = (m < 2 ^ 32) × (anyChosen (outOfDate (storeHistory store)) m (entriesOf copy) ≡ someStale (sideIn store copy) mask)
@@ -41,7 +37,7 @@ returns c =
     let l = low (c .before .before) in
     let k = c .before .before .before .before .before .before in
     let a = k .args in
-    stale-here (a .store .now) (a .copy .now) (a .v) (k .pre) (l .1) (l .0) (c .before .is-stale .ensures) (c .if1 .taken) ∙ c .before .before .before .loop .inv .1
+    stale-here (a .store .now) (a .copy .now) (k .pre .viewed .accepted) (l .1) (l .0) (c .before .is-stale .ensures) (c .if1 .taken) ∙ c .before .before .before .loop .inv .1
 
 sub-m : tie.Need-sub-m Inv-loop μ-loop
 sub-m c = omega arith
@@ -56,14 +52,13 @@ loop-again c =
     let a = k .args in
     rw (and-cleared (l .1)) (
       omega (arith, cleared-lt (l .1), c .before .before .before .loop .inv .0),
-      stale-next (a .store .now) (a .copy .now) (a .v) (k .pre) (l .1) (l .0) (c .before .is-stale .ensures) (c .if1 .left) ∙ c .before .before .before .loop .inv .1,
+      stale-next (a .store .now) (a .copy .now) (k .pre .viewed .accepted) (l .1) (l .0) (c .before .is-stale .ensures) (c .if1 .left) ∙ c .before .before .before .loop .inv .1,
     )
 
 returns-2 : tie.Need-returns-2 Inv-loop μ-loop
 returns-2 c =
-    let k = c .before .before .before .before in
-    let a = k .args in
-    stale-none (a .store .now) (a .copy .now) (a .v) (k .pre) (omega arith) ∙ c .before .loop .inv .1
+    let a = c .before .before .before .before .args in
+    stale-none (a .store .now) (a .copy .now) (omega arith) ∙ c .before .loop .inv .1
 
 pub any-stale-spec : {M : Type 1} → statement M
 any-stale-spec =

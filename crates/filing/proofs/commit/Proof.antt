@@ -1,16 +1,10 @@
 -- `filing::commit` meets its contract, one law for each answer.
 -- Assumes nothing.
-use Rattle.filing.proofs.Answers.{commit-done, commit-no-room, commit-none, commit-nothing, commit-stale, left-committed, may-commit, may-settle, next-is, next-small, seat-small}
 use native.Mathlib.Omega.{arith}
 use borrow.Author.Needs.{needs}
+use Rattle.filing.proofs.Answers.{commit-done, commit-no-room, commit-none, commit-nothing, commit-stale, left-committed, may-commit, may-settle, next-is, next-small, seat-small}
 use Rattle.filing.proofs.commit.Statement.{statement}
 use Rattle.filing.proofs.commit.Tie as tie
-use Rattle.filing.proofs.commit.Reads as reads
-use Rattle.filing.proofs.commit.Lts as lts
-use Rattle.commits.proofs.commit_chosen.Reads as commit-chosen-reads
-use Rattle.filing.proofs.any_stale.Reads as any-stale-reads
-use Rattle.filing.proofs.note_flags.Reads as note-flags-reads
-use Rattle.filing.proofs.settle.Reads as settle-reads
 
 returns : tie.Need-returns
 returns c = let a = c .before .before .before .args in commit-none (a .store .now) (a .copy .now) (a .stamp) (a .mask) (c .if1 .taken)
@@ -33,10 +27,10 @@ note-flags-requires : tie.Need-note-flags-requires
 note-flags-requires c κs = search needs
 
 add-next : tie.Need-add-next
-add-next c = let k = c .before .before .before .before .before .before .before .before .before .before .before .before .before in let a = k .args in omega (arith, next-small (a .store .now) (a .copy .now) (a .v) (k .pre))
+add-next c = let k = c .before .before .before .before .before .before .before .before .before .before .before .before in let a = k .args in omega (arith, next-small (a .store .now) (a .copy .now) (a .v) (k .pre))
 
 cast-seat : tie.Need-cast-seat
-cast-seat c = let k = c .before .before .before .before .before .before .before .before .before .before .before .before .before .before in let a = k .args in omega (arith, seat-small (a .store .now) (a .copy .now) (a .v) (k .pre))
+cast-seat c = let k = c .before .before .before .before .before .before .before .before .before .before .before .before .before in let a = k .args in omega (arith, seat-small (a .store .now) (a .copy .now) (a .v) (k .pre))
 
 slice-aggregate-commit-chosen : tie.Need-slice-aggregate-commit-chosen
 slice-aggregate-commit-chosen c = search needs
@@ -45,7 +39,7 @@ slice-aggregate-commit-chosen-2 : tie.Need-slice-aggregate-commit-chosen-2
 slice-aggregate-commit-chosen-2 c = search needs
 
 commit-chosen-requires : tie.Need-commit-chosen-requires
-commit-chosen-requires c κs = let k = c .before .before .before .before .before .before .before .before .before .before .before .before .before .before .before .before .before .before in let a = k .args in may-commit (a .store .now) (a .copy .now) (a .v) (k .pre) (c .before .before .before .before .before .before .before .before .note-flags .ensures)
+commit-chosen-requires c κs = let k = c .before .before .before .before .before .before .before .before .before .before .before .before .before .before .before .before .before in let a = k .args in may-commit (a .store .now) (a .copy .now) (a .v) (k .pre) (c .before .before .before .before .before .before .before .note-flags .ensures)
 
 enum-told : tie.Need-enum-told
 enum-told c = search needs
@@ -57,13 +51,13 @@ enum-told-3 : tie.Need-enum-told-3
 enum-told-3 c = search needs
 
 cast-revision : tie.Need-cast-revision
-cast-revision c = let k = c .before .before .before .before .before .before .before .before .before .before .before .before .before .before .before .before .before .before .before .before .before .before .before in let a = k .args in omega (arith, next-small (a .store .now) (a .copy .now) (a .v) (k .pre))
+cast-revision c = let k = c .before .before .before .before .before .before .before .before .before .before .before .before .before .before .before .before .before .before .before .before .before .before in let a = k .args in omega (arith, next-small (a .store .now) (a .copy .now) (a .v) (k .pre))
 
 slice-aggregate-settle : tie.Need-slice-aggregate-settle
 slice-aggregate-settle c = search needs
 
 settle-requires : tie.Need-settle-requires
-settle-requires c κs = let k = c .before .before .before .before .before .before .before .before .before .before .before .before .before .before .before .before .before .before .before .before .before .before .before .before .before in let a = k .args in (may-settle (a .store .now) (a .copy .now) (a .v) (k .pre), c .before .before .before .before .before .before .before .before .before .before .before .before .before .before .before .note-flags .ensures .flags)
+settle-requires c κs = let k = c .before .before .before .before .before .before .before .before .before .before .before .before .before .before .before .before .before .before .before .before .before .before .before .before in let a = k .args in (may-settle (a .store .now) (a .copy .now) (a .v) (k .pre), c .before .before .before .before .before .before .before .before .before .before .before .before .before .before .note-flags .ensures .flags)
 
 same-length-3 : tie.Need-same-length-3
 same-length-3 c = search needs
@@ -73,8 +67,8 @@ same-length-4 c = search needs
 
 returns-3 : tie.Need-returns-3
 returns-3 c =
-    let a = c .before .before .before .before .before .before .before .before .before .before .before .before .before .before .before .before .before .before .before .before .before .before .before .args in
-    commit-nothing (a .store .now) (a .copy .now) (a .stamp) (a .mask) (c .before .before .before .before .before .before .before .before .before .before .before .before .before .before .before .before .before .before .before .before .if1 .left) (c .before .before .before .before .before .before .before .before .before .before .before .before .before .before .before .before .before .any-stale .ensures) (c .before .before .before .before .before .before .before .before .before .before .before .before .before .before .before .before .if2 .left) (c .enum-told .given .1) (c .before .before .before .before .commit-chosen .ensures)
+    let a = c .before .before .before .before .before .before .before .before .before .before .before .before .before .before .before .before .before .before .before .before .before .before .args in
+    commit-nothing (a .store .now) (a .copy .now) (a .stamp) (a .mask) (c .before .before .before .before .before .before .before .before .before .before .before .before .before .before .before .before .before .before .before .if1 .left) (c .enum-told .given .1) (c .before .before .before .before .commit-chosen .ensures)
 
 same-length-5 : tie.Need-same-length-5
 same-length-5 c = search needs
@@ -84,8 +78,8 @@ same-length-6 c = search needs
 
 returns-4 : tie.Need-returns-4
 returns-4 c =
-    let a = c .before .before .before .before .before .before .before .before .before .before .before .before .before .before .before .before .before .before .before .before .before .before .before .args in
-    commit-no-room (a .store .now) (a .copy .now) (a .stamp) (a .mask) (c .before .before .before .before .before .before .before .before .before .before .before .before .before .before .before .before .before .before .before .before .if1 .left) (c .before .before .before .before .before .before .before .before .before .before .before .before .before .before .before .before .before .any-stale .ensures) (c .before .before .before .before .before .before .before .before .before .before .before .before .before .before .before .before .if2 .left) (c .enum-told2 .given .1) (c .before .before .before .before .commit-chosen .ensures)
+    let a = c .before .before .before .before .before .before .before .before .before .before .before .before .before .before .before .before .before .before .before .before .before .before .args in
+    commit-no-room (a .store .now) (a .copy .now) (a .stamp) (a .mask) (c .before .before .before .before .before .before .before .before .before .before .before .before .before .before .before .before .before .before .before .if1 .left) (c .before .before .before .before .before .before .before .before .before .before .before .before .before .before .before .before .any-stale .ensures) (c .before .before .before .before .before .before .before .before .before .before .before .before .before .before .before .if2 .left) (c .before .before .before .before .commit-chosen .ensures) (c .enum-told2 .given .1)
 
 same-length-7 : tie.Need-same-length-7
 same-length-7 c = search needs
@@ -95,10 +89,10 @@ same-length-8 c = search needs
 
 returns-5 : tie.Need-returns-5
 returns-5 c =
-    let k = c .before .before .before .before .before .before .before .before .before .before .before .before .before .before .before .before .before .before .before .before .before .before .before .before .before .before .before .before in
+    let k = c .before .before .before .before .before .before .before .before .before .before .before .before .before .before .before .before .before .before .before .before .before .before .before .before .before .before .before in
     let a = k .args in
-    commit-done (a .store .now) (a .copy .now) (a .stamp) (a .mask) (c .before .before .before .before .before .before .before .before .before .before .before .before .before .before .before .before .before .before .before .before .before .before .before .before .before .if1 .left) (c .before .before .before .before .before .before .before .before .before .before .before .before .before .before .before .before .before .before .before .before .before .before .any-stale .ensures) (c .before .before .before .before .before .before .before .before .before .before .before .before .before .before .before .before .before .before .before .before .before .if2 .left) (c .before .before .before .before .before .enum-told3 .given .1) (c .before .before .before .before .before .before .before .before .before .commit-chosen .ensures)
-    (next-is (a .store .now) (a .copy .now) (a .v) (k .pre)) (left-committed (a .store .now) (a .copy .now) (a .v) (k .pre) (c .before .before .before .before .before .before .before .before .before .before .before .before .before .before .before .before .before .before .note-flags .ensures) (c .before .before .settle .ensures))
+    commit-done (a .store .now) (a .copy .now) (a .stamp) (a .mask) (c .before .before .before .before .before .before .before .before .before .before .before .before .before .before .before .before .before .before .before .before .before .before .before .before .if1 .left) (c .before .before .before .before .before .before .before .before .before .before .before .before .before .before .before .before .before .before .before .before .before .any-stale .ensures) (c .before .before .before .before .before .before .before .before .before .before .before .before .before .before .before .before .before .before .before .before .if2 .left) (c .before .before .before .before .before .before .before .before .before .commit-chosen .ensures) (c .before .before .before .before .before .enum-told3 .given .1)
+    (next-is (a .store .now) (a .copy .now) (a .v) (k .pre)) (left-committed (a .store .now) (a .copy .now) (a .v) (k .pre) (c .before .before .before .before .before .before .before .before .before .before .before .before .before .before .before .before .before .note-flags .ensures) (c .before .before .settle .ensures))
 
 pub commit-spec : {M : Type 1} → statement M
 commit-spec =

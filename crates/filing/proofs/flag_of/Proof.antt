@@ -1,15 +1,10 @@
 -- `filing::flag_of` meets its contract, state by state.
 -- Assumes nothing.
-use Rattle.filing.proofs.Looking.{altered-as, altered-copied, altered-normal, source-near, source-sheet}
-use Rattle.entries.proofs.States.{normal-base}
-use native.Mathlib.Omega.{arith}
 use borrow.Author.Needs.{needs}
+use Rattle.entries.proofs.States.{normal-base}
+use Rattle.filing.proofs.Looking.{altered-as, altered-copied, altered-normal, source-near, source-sheet}
 use Rattle.filing.proofs.flag_of.Statement.{statement}
 use Rattle.filing.proofs.flag_of.Tie as tie
-use Rattle.filing.proofs.flag_of.Reads as reads
-use Rattle.filing.proofs.flag_of.Lts as lts
-use Rattle.entries.proofs.differs.Reads as differs-reads
-use Rattle.workcopy.proofs.entry_at.Reads as entry-at-reads
 
 entry-at-requires : tie.Need-entry-at-requires
 entry-at-requires c κs = search needs
@@ -50,22 +45,22 @@ differs-requires-2 c κs =
     let a = k .args in
     let r = c .before .before .before .before .before .entry-at .ensures in
     let q = c .before .before .before .state2 .given .1 in
-    (k .pre .0 .viewed, k .pre .1, source-near (a .store .now) (a .copy .now) (a .v) (k .pre .0) r q, source-sheet (a .store .now) (a .copy .now) (a .v) (k .pre .0) r q)
+    (k .pre .0 .viewed, k .pre .1, source-near (a .store .now) (a .copy .now) r q (a .v) (k .pre .0), source-sheet (a .store .now) (a .copy .now) r q (a .v) (k .pre .0))
 
 returns : tie.Need-returns
-returns c = let k = c .before .before .before .before .before in let a = k .args in altered-as (a .store .now) (a .copy .now) (a .v) (k .pre .0) (c .before .before .entry-at .ensures) (c .enum-told .given .1)
+returns c = let a = c .before .before .before .before .before .args in altered-as (a .store .now) (a .copy .now) (c .before .before .entry-at .ensures) (c .enum-told .given .1)
 
 returns-2 : tie.Need-returns-2
-returns-2 c = let k = c .before .before .before .before .before .before .before in let a = k .args in altered-normal (a .store .now) (a .copy .now) (a .v) (k .pre .0) (c .before .before .before .before .entry-at .ensures) (c .before .before .state .given .1) (c .differs .ensures)
+returns-2 c = let a = c .before .before .before .before .before .before .before .args in altered-normal (a .store .now) (a .copy .now) (c .before .before .before .before .entry-at .ensures) (c .before .before .state .given .1) (c .differs .ensures)
 
 returns-3 : tie.Need-returns-3
-returns-3 c = let k = c .before .before .before .before .before in let a = k .args in altered-as (a .store .now) (a .copy .now) (a .v) (k .pre .0) (c .before .before .entry-at .ensures) (c .enum-told2 .given .1)
+returns-3 c = let a = c .before .before .before .before .before .args in altered-as (a .store .now) (a .copy .now) (c .before .before .entry-at .ensures) (c .enum-told2 .given .1)
 
 returns-4 : tie.Need-returns-4
-returns-4 c = let k = c .before .before .before .before .before in let a = k .args in altered-as (a .store .now) (a .copy .now) (a .v) (k .pre .0) (c .before .before .entry-at .ensures) (c .enum-told3 .given .1)
+returns-4 c = let a = c .before .before .before .before .before .args in altered-as (a .store .now) (a .copy .now) (c .before .before .entry-at .ensures) (c .enum-told3 .given .1)
 
 returns-5 : tie.Need-returns-5
-returns-5 c = let k = c .before .before .before .before .before .before .before .before .before in let a = k .args in altered-copied (a .store .now) (a .copy .now) (a .v) (k .pre .0) (c .before .before .before .before .before .before .entry-at .ensures) (c .before .before .before .before .state2 .given .1) (c .differs2 .ensures)
+returns-5 c = let a = c .before .before .before .before .before .before .before .before .before .args in altered-copied (a .store .now) (a .copy .now) (c .before .before .before .before .before .before .entry-at .ensures) (c .before .before .before .before .state2 .given .1) (c .differs2 .ensures)
 
 pub flag-of-spec : {M : Type 1} → statement M
 flag-of-spec =

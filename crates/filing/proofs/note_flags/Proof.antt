@@ -1,17 +1,13 @@
 -- `filing::note_flags` meets its contract. The loop's invariant: the flags of the chosen sheets that are not left are right. The measure is the mask of what is left.
 -- Assumes nothing.
 use Prim.Native.Nat.{_<_}
-use lib.Count.{trailingZeros}
-use Rattle.masks.proofs.Bits.{Lowest, and-cleared, cleared-lt, lowest}
-use Rattle.filing.proofs.Noting.{Noting, flag-byte, noting-ends, noting-next, noting-starts}
-use borrow.Author.Needs.{needs}
 use native.Mathlib.Omega.{arith}
+use borrow.Author.Needs.{needs}
+use lib.Count.{trailingZeros}
+use Rattle.filing.proofs.Noting.{Noting, flag-byte, noting-ends, noting-next, noting-starts}
 use Rattle.filing.proofs.note_flags.Statement.{statement}
+use Rattle.masks.proofs.Bits.{Lowest, and-cleared, cleared-lt, lowest}
 use Rattle.filing.proofs.note_flags.Tie as tie
-use Rattle.filing.proofs.note_flags.Reads as reads
-use Rattle.filing.proofs.note_flags.Lts as lts
-use Rattle.filing.proofs.flag_of.Reads as flag-of-reads
-use Rattle.filing.proofs.place_of.Reads as place-of-reads
 
 abbrev Inv-loop : tie.InvT-loop
 Inv-loop store copy v mask changed₀ places₀ m₀ changed places m = Noting store copy mask changed places m

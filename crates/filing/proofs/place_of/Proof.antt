@@ -1,14 +1,10 @@
 -- `filing::place_of` meets its contract, state by state.
 -- Assumes nothing.
-use Rattle.filing.proofs.Looking.{source-as, source-found, source-near, source-sheet, source-small}
 use native.Mathlib.Omega.{arith}
 use borrow.Author.Needs.{needs}
+use Rattle.filing.proofs.Looking.{source-as, source-found, source-near, source-sheet, source-small}
 use Rattle.filing.proofs.place_of.Statement.{statement}
 use Rattle.filing.proofs.place_of.Tie as tie
-use Rattle.filing.proofs.place_of.Reads as reads
-use Rattle.filing.proofs.place_of.Lts as lts
-use Rattle.search.proofs.look_up.Reads as look-up-reads
-use Rattle.workcopy.proofs.entry_at.Reads as entry-at-reads
 
 entry-at-requires : tie.Need-entry-at-requires
 entry-at-requires c κs = search needs
@@ -28,11 +24,11 @@ enum-told-4 c = search needs
 enum-known-state : tie.Need-enum-known-state
 enum-known-state c = search needs
 
-cast-look-up : tie.Need-cast-look-up
-cast-look-up c = search needs
+cast-r : tie.Need-cast-r
+cast-r c = search needs
 
-cast-look-up-2 : tie.Need-cast-look-up-2
-cast-look-up-2 c = search needs
+cast-i : tie.Need-cast-i
+cast-i c = search needs
 
 look-up-requires : tie.Need-look-up-requires
 look-up-requires c κs =
@@ -41,28 +37,28 @@ look-up-requires c κs =
     let r = c .before .before .before .before .before .entry-at .ensures in
     let q = c .before .before .before .state .given .1 in
     let o = k .pre .0 .viewed .opened in
-    (o .accepted, omega (arith, o .last, source-near (a .store .now) (a .copy .now) (a .v) (k .pre .0) r q), source-sheet (a .store .now) (a .copy .now) (a .v) (k .pre .0) r q)
+    (o .accepted, omega (arith, o .last, source-near (a .store .now) (a .copy .now) r q (a .v) (k .pre .0)), source-sheet (a .store .now) (a .copy .now) r q (a .v) (k .pre .0))
 
 cast-result : tie.Need-cast-result
 cast-result c =
     let k = c .before .before .before .before .before .before .before .before .before .before in
     let a = k .args in
-    omega (arith, source-small (a .store .now) (a .copy .now) (a .v) (k .pre .0) (c .before .before .before .before .before .before .before .entry-at .ensures) (c .before .before .before .before .before .state .given .1) (c .before .look-up .ensures))
+    omega (arith, source-small (a .store .now) (a .copy .now) (c .before .before .before .before .before .before .before .entry-at .ensures) (c .before .before .before .before .before .state .given .1) (a .v) (k .pre .0) (c .before .look-up .ensures))
 
 returns : tie.Need-returns
-returns c = let k = c .before .before .before .before .before in let a = k .args in source-as (a .store .now) (a .copy .now) (a .v) (k .pre .0) (c .before .before .entry-at .ensures) (c .enum-told .given .1)
+returns c = let a = c .before .before .before .before .before .args in source-as (a .store .now) (a .copy .now) (c .before .before .entry-at .ensures) (c .enum-told .given .1)
 
 returns-2 : tie.Need-returns-2
-returns-2 c = let k = c .before .before .before .before .before in let a = k .args in source-as (a .store .now) (a .copy .now) (a .v) (k .pre .0) (c .before .before .entry-at .ensures) (c .enum-told2 .given .1)
+returns-2 c = let a = c .before .before .before .before .before .args in source-as (a .store .now) (a .copy .now) (c .before .before .entry-at .ensures) (c .enum-told2 .given .1)
 
 returns-3 : tie.Need-returns-3
-returns-3 c = let k = c .before .before .before .before .before in let a = k .args in source-as (a .store .now) (a .copy .now) (a .v) (k .pre .0) (c .before .before .entry-at .ensures) (c .enum-told3 .given .1)
+returns-3 c = let a = c .before .before .before .before .before .args in source-as (a .store .now) (a .copy .now) (c .before .before .entry-at .ensures) (c .enum-told3 .given .1)
 
 returns-4 : tie.Need-returns-4
-returns-4 c = let k = c .before .before .before .before .before in let a = k .args in source-as (a .store .now) (a .copy .now) (a .v) (k .pre .0) (c .before .before .entry-at .ensures) (c .enum-told4 .given .1)
+returns-4 c = let a = c .before .before .before .before .before .args in source-as (a .store .now) (a .copy .now) (c .before .before .entry-at .ensures) (c .enum-told4 .given .1)
 
 returns-5 : tie.Need-returns-5
-returns-5 c = let k = c .before .before .before .before .before .before .before .before .before .before in let a = k .args in source-found (a .store .now) (a .copy .now) (a .v) (k .pre .0) (c .before .before .before .before .before .before .before .entry-at .ensures) (c .before .before .before .before .before .state .given .1) (c .before .look-up .ensures)
+returns-5 c = let a = c .before .before .before .before .before .before .before .before .before .before .args in source-found (a .store .now) (a .copy .now) (c .before .before .before .before .before .before .before .entry-at .ensures) (c .before .before .before .before .before .state .given .1) (c .before .look-up .ensures)
 
 pub place-of-spec : {M : Type 1} → statement M
 place-of-spec =
@@ -74,8 +70,8 @@ place-of-spec =
     enum-told-3
     enum-told-4
     enum-known-state
-    cast-look-up
-    cast-look-up-2
+    cast-r
+    cast-i
     look-up-requires
     cast-result
     returns

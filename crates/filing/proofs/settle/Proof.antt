@@ -2,16 +2,12 @@
 -- Assumes nothing.
 use Prim.Native.Nat.{_<_}
 use mathlib.Core.Path.{refl}
-use lib.Count.{trailingZeros}
-use Rattle.masks.proofs.Bits.{Lowest, and-cleared, cleared-lt, lowest}
-use Rattle.filing.proofs.Settling.{Doing, doing-end, doing-length, doing-next}
-use borrow.Author.Needs.{needs}
 use native.Mathlib.Omega.{arith}
+use lib.Count.{trailingZeros}
+use Rattle.filing.proofs.Settling.{Doing, doing-end, doing-length, doing-next}
 use Rattle.filing.proofs.settle.Statement.{statement}
+use Rattle.masks.proofs.Bits.{Lowest, and-cleared, cleared-lt, lowest}
 use Rattle.filing.proofs.settle.Tie as tie
-use Rattle.filing.proofs.settle.Reads as reads
-use Rattle.filing.proofs.settle.Lts as lts
-use Rattle.filing.proofs.settle_one.Reads as settle-one-reads
 
 abbrev Inv-loop : tie.InvT-loop
 Inv-loop copy₀ mask revision changed m₀ copy m = Doing revision changed mask copy₀ copy m
