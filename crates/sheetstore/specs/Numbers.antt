@@ -34,6 +34,18 @@ leftNumbers c = left (answerNumbers (c .says)) (c .buffer)
 abbrev pub copyNumbers : Out → Left
 copyNumbers o = left (answerNumbers (o .says)) (o .copy)
 
+-- an answer beside both buffers
+pub record Both : Type 0 where
+  pub numbers : SheetsAnswer
+  pub store : Bytes
+  pub copy : Bytes
+
+abbrev pub both : SheetsAnswer → Bytes → Bytes → Both
+both r s c = record { numbers = r; store = s; copy = c }
+
+abbrev pub bothNumbers : Out → Both
+bothNumbers o = both (answerNumbers (o .says)) (o .store) (o .copy)
+
 -- buffer 0 is the store, 1 the working copy
 abbrev pub partNumbers : Place → SheetsPart
 partNumbers (noPlace n) = record { refusal = n; buffer = 0; start = 0; len = 0 }

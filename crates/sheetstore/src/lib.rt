@@ -5,10 +5,10 @@ use model::Answer;
 use model::LogEntry;
 use model::Place;
 ghost use mathlib.Core.Path.{_≡_};
-ghost use Rattle.model.specs.Calls.{addCall, copyCall, createCopy, createStore, deleteCall, editCall, logCall, moveCall, readPlace, showPlace, statusCall};
+ghost use Rattle.model.specs.Calls.{addCall, commitCall, copyCall, createCopy, createStore, deleteCall, editCall, logCall, moveCall, readPlace, revertCall, showPlace, statusCall, updateCall};
 ghost use Rattle.model.specs.Types.{answerOf, placeOf};
 ghost use Rattle.model.specs.declared.Answer.the-variants.{Logged};
-ghost use Rattle.sheetstore.specs.Numbers.{answerNumbers, copyNumbers, left, leftNumbers, logNumbers, noLog, partNumbers};
+ghost use Rattle.sheetstore.specs.Numbers.{answerNumbers, both, bothNumbers, copyNumbers, left, leftNumbers, logNumbers, noLog, partNumbers};
 
 // A refusal's number, or 0 and the revision or status, if the call answers one.
 #[repr(C)]
@@ -234,6 +234,40 @@ pub extern "C" fn sheets_move(store: &[u8], copy: &mut [u8], from: u32, to: u32)
     ensures { λ r. ⌜ left r (now (copy .exit)) ≡ copyNumbers (moveCall (now (store .entry)) (now (copy .entry)) from to) ⌝ }
 {
     answer_numbers(engine::move_sheet(store, copy, from, to))
+}
+
+// The chosen pending entries become the next revision; its number is the value.
+#[no_mangle]
+pub extern "C" fn sheets_commit(
+    store: &mut [u8],
+    copy: &mut [u8],
+    stamp: u32,
+    mask: u32,
+) -> SheetsAnswer
+    ensures { λ r. ⌜ both r (now (store .exit)) (now (copy .exit)) ≡ bothNumbers (commitCall (now (store .entry)) (now (copy .entry)) stamp mask) ⌝ }
+{
+    answer_numbers(engine::commit(store, copy, stamp, mask))
+}
+
+// The chosen entries come to a revision, unless one is a conflict.
+#[no_mangle]
+pub extern "C" fn sheets_update(
+    store: &[u8],
+    copy: &mut [u8],
+    mask: u32,
+    revision: u32,
+) -> SheetsAnswer
+    ensures { λ r. ⌜ left r (now (copy .exit)) ≡ copyNumbers (updateCall (now (store .entry)) (now (copy .entry)) mask revision) ⌝ }
+{
+    answer_numbers(engine::update(store, copy, mask, revision))
+}
+
+// The chosen entries come back to their base.
+#[no_mangle]
+pub extern "C" fn sheets_revert(store: &[u8], copy: &mut [u8], mask: u32) -> SheetsAnswer
+    ensures { λ r. ⌜ left r (now (copy .exit)) ≡ copyNumbers (revertCall (now (store .entry)) (now (copy .entry)) mask) ⌝ }
+{
+    answer_numbers(engine::revert(store, copy, mask))
 }
 
 // Where the bytes that a seat sees of a sheet stand: its own in the working copy, else the last revision's in the store.
