@@ -110,7 +110,7 @@ pub record CodeDemand3 : Type 2 where
 -- THE PROOF
 
 -- what a caller learns is the call on buffers
-made-is : {store copy store′ copy′ : Bytes} {c : Call} {r : TheAnswer} → Made store copy c r store′ copy′ → out (answerOf r) store′ copy′ ≡ call store copy c
+pub made-is : {store copy store′ copy′ : Bytes} {c : Call} {r : TheAnswer} → Made store copy c r store′ copy′ → out (answerOf r) store′ copy′ ≡ call store copy c
 made-is (adds κs x y z x′ y′ z′ e) = e
 made-is (edits κs x y z x′ y′ z′ e) = e
 made-is (deletes κs x y x′ y′ e) = e

@@ -7,3 +7,4 @@ pub mod Demand2
 pub mod Changing
 pub mod Showing
 pub mod Demand3
+pub mod Demand1
