@@ -1,4 +1,4 @@
-//! The engine's C library, and zlib's adler32.
+//! The engine's C library, the inner functions that crate `measure` exports, and zlib's adler32.
 
 #[repr(C)]
 #[derive(Clone, Copy, Debug)]
@@ -9,16 +9,117 @@ pub struct Place {
     pub len: usize,
 }
 
+#[repr(C)]
+#[derive(Clone, Copy, Debug)]
+pub struct Answer {
+    pub refusal: u32,
+    pub value: u32,
+}
+
+#[repr(C)]
+#[derive(Clone, Copy, Debug)]
+pub struct LogEntry {
+    pub refusal: u32,
+    pub seat: u32,
+    pub stamp: u32,
+    pub changes: u32,
+    pub action: u32,
+    pub source_sheet: u32,
+    pub source_revision: u32,
+}
+
 mod c {
-    use super::Place;
+    use super::{Answer, LogEntry, Place};
     extern "C" {
+        pub fn sheets_create_copy(copy: *mut u8, copy_len: usize, seat: u32) -> Answer;
+        pub fn sheets_add(store: *const u8, store_len: usize, copy: *mut u8, copy_len: usize, sheet: u32, bytes: *const u8, len: usize) -> Answer;
+        pub fn sheets_edit(store: *const u8, store_len: usize, copy: *mut u8, copy_len: usize, sheet: u32, bytes: *const u8, len: usize) -> Answer;
+        pub fn sheets_delete(store: *const u8, store_len: usize, copy: *mut u8, copy_len: usize, sheet: u32) -> Answer;
+        pub fn sheets_copy(store: *const u8, store_len: usize, copy: *mut u8, copy_len: usize, from: u32, to: u32) -> Answer;
+        pub fn sheets_move(store: *const u8, store_len: usize, copy: *mut u8, copy_len: usize, from: u32, to: u32) -> Answer;
+        pub fn sheets_commit(store: *mut u8, store_len: usize, copy: *mut u8, copy_len: usize, stamp: u32, mask: u32) -> Answer;
+        pub fn sheets_update(store: *const u8, store_len: usize, copy: *mut u8, copy_len: usize, mask: u32, revision: u32) -> Answer;
+        pub fn sheets_revert(store: *const u8, store_len: usize, copy: *mut u8, copy_len: usize, mask: u32) -> Answer;
         pub fn sheets_read(store: *const u8, store_len: usize, revision: u32, sheet: u32) -> Place;
+        pub fn sheets_show(store: *const u8, store_len: usize, copy: *const u8, copy_len: usize, sheet: u32) -> Place;
+        pub fn sheets_status(store: *const u8, store_len: usize, copy: *const u8, copy_len: usize, sheet: u32) -> Answer;
+        pub fn sheets_log(store: *const u8, store_len: usize, revision: u32, sheet: u32) -> LogEntry;
+        pub fn measure_look_up(store: *const u8, store_len: usize, n: usize, used: usize, r: usize, i: usize) -> usize;
+        pub fn measure_status(
+            store: *const u8,
+            store_len: usize,
+            copy: *const u8,
+            copy_len: usize,
+            n: usize,
+            used: usize,
+            last: usize,
+            seat: u32,
+            i: usize,
+        ) -> u32;
         pub fn adler32(adler: u64, bytes: *const u8, len: u32) -> u64;
     }
 }
 
+pub fn create_copy(copy: &mut [u8], seat: u32) -> Answer {
+    unsafe { c::sheets_create_copy(copy.as_mut_ptr(), copy.len(), seat) }
+}
+
+pub fn add(store: &[u8], copy: &mut [u8], sheet: u32, bytes: &[u8]) -> Answer {
+    unsafe { c::sheets_add(store.as_ptr(), store.len(), copy.as_mut_ptr(), copy.len(), sheet, bytes.as_ptr(), bytes.len()) }
+}
+
+pub fn edit(store: &[u8], copy: &mut [u8], sheet: u32, bytes: &[u8]) -> Answer {
+    unsafe { c::sheets_edit(store.as_ptr(), store.len(), copy.as_mut_ptr(), copy.len(), sheet, bytes.as_ptr(), bytes.len()) }
+}
+
+pub fn delete(store: &[u8], copy: &mut [u8], sheet: u32) -> Answer {
+    unsafe { c::sheets_delete(store.as_ptr(), store.len(), copy.as_mut_ptr(), copy.len(), sheet) }
+}
+
+pub fn copy_sheet(store: &[u8], copy: &mut [u8], from: u32, to: u32) -> Answer {
+    unsafe { c::sheets_copy(store.as_ptr(), store.len(), copy.as_mut_ptr(), copy.len(), from, to) }
+}
+
+pub fn move_sheet(store: &[u8], copy: &mut [u8], from: u32, to: u32) -> Answer {
+    unsafe { c::sheets_move(store.as_ptr(), store.len(), copy.as_mut_ptr(), copy.len(), from, to) }
+}
+
+pub fn commit(store: &mut [u8], copy: &mut [u8], stamp: u32, mask: u32) -> Answer {
+    unsafe { c::sheets_commit(store.as_mut_ptr(), store.len(), copy.as_mut_ptr(), copy.len(), stamp, mask) }
+}
+
+pub fn update(store: &[u8], copy: &mut [u8], mask: u32, revision: u32) -> Answer {
+    unsafe { c::sheets_update(store.as_ptr(), store.len(), copy.as_mut_ptr(), copy.len(), mask, revision) }
+}
+
+pub fn revert(store: &[u8], copy: &mut [u8], mask: u32) -> Answer {
+    unsafe { c::sheets_revert(store.as_ptr(), store.len(), copy.as_mut_ptr(), copy.len(), mask) }
+}
+
 pub fn read(store: &[u8], revision: u32, sheet: u32) -> Place {
     unsafe { c::sheets_read(store.as_ptr(), store.len(), revision, sheet) }
+}
+
+pub fn show(store: &[u8], copy: &[u8], sheet: u32) -> Place {
+    unsafe { c::sheets_show(store.as_ptr(), store.len(), copy.as_ptr(), copy.len(), sheet) }
+}
+
+pub fn status(store: &[u8], copy: &[u8], sheet: u32) -> Answer {
+    unsafe { c::sheets_status(store.as_ptr(), store.len(), copy.as_ptr(), copy.len(), sheet) }
+}
+
+pub fn log(store: &[u8], revision: u32, sheet: u32) -> LogEntry {
+    unsafe { c::sheets_log(store.as_ptr(), store.len(), revision, sheet) }
+}
+
+/// Of an accepted store alone.
+pub fn look_up(store: &[u8], used: usize, r: usize, i: usize) -> usize {
+    unsafe { c::measure_look_up(store.as_ptr(), store.len(), store.len() / 512, used, r, i) }
+}
+
+/// Of an accepted store and a working copy that fits it alone.
+pub fn inner_status(store: &[u8], copy: &[u8], used: usize, last: usize, seat: u32, i: usize) -> u32 {
+    unsafe { c::measure_status(store.as_ptr(), store.len(), copy.as_ptr(), copy.len(), store.len() / 512, used, last, seat, i) }
 }
 
 pub fn adler(bytes: &[u8]) -> u64 {

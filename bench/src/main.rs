@@ -8,7 +8,7 @@ use std::hint::black_box;
 use std::time::Instant;
 
 /// The best time of each function over the rounds, in nanoseconds; the functions take turns.
-fn best(rounds: usize, fs: &mut [(&str, Box<dyn FnMut()>)]) -> Vec<f64> {
+fn best(rounds: usize, fs: &mut [(&str, Box<dyn FnMut() + '_>)]) -> Vec<f64> {
     let mut times = vec![f64::MAX; fs.len()];
     for _ in 0..rounds {
         for (t, (_, f)) in times.iter_mut().zip(fs.iter_mut()) {
@@ -20,7 +20,12 @@ fn best(rounds: usize, fs: &mut [(&str, Box<dyn FnMut()>)]) -> Vec<f64> {
     times
 }
 
-fn report(title: &str, rounds: usize, mut fs: Vec<(&str, Box<dyn FnMut()>)>) -> Vec<f64> {
+/// Keeps the answer from being left out by the compiler.
+fn keep<T>(answer: T) {
+    black_box(&answer);
+}
+
+fn report(title: &str, rounds: usize, mut fs: Vec<(&str, Box<dyn FnMut() + '_>)>) -> Vec<f64> {
     let times = best(rounds, &mut fs);
     println!("{title}");
     for ((name, _), t) in fs.iter().zip(&times) {
@@ -34,25 +39,118 @@ fn accept() {
         let opened = store::open(&bytes).expect("the maker lays out a history");
         assert_eq!(engine::read(&bytes, 0, 0).refusal, 8, "the engine accepts it too");
         println!("{kind}: {} commits, {} blocks used", opened.last, opened.used);
+        let mut broken = bytes.clone();
+        *broken.last_mut().expect("a store has bytes") ^= 1;
+        assert_eq!(engine::read(&broken, 0, 0).refusal, 2, "a wrong check in the last block: all the sums, and nothing else");
         let (a, b, c, d) = (bytes.clone(), bytes.clone(), bytes.clone(), bytes.clone());
         report(
             "  acceptance of 4,096 blocks",
             60,
             vec![
-                ("Rust version", Box::new(move || drop(black_box(store::open(black_box(&a)))))),
-                ("engine (read 0 0, which is acceptance)", Box::new(move || drop(black_box(engine::read(black_box(&b), 0, 0))))),
-                ("Rust version, sums alone", Box::new(move || drop(black_box(c.chunks_exact(512).all(store::checked))))),
-                ("zlib's adler32 over the same bytes", Box::new(move || drop(black_box(engine::adler(black_box(&d)))))),
+                ("Rust version", Box::new(move || keep(store::open(black_box(&a))))),
+                ("engine (read 0 0, which is acceptance)", Box::new(move || keep(engine::read(black_box(&b), 0, 0)))),
+                ("engine, sums alone (last check wrong)", Box::new(move || keep(engine::read(black_box(&broken), 0, 0)))),
+                ("Rust version, sums alone", Box::new(move || keep(c.chunks_exact(512).all(store::checked)))),
+                ("zlib's adler32 over the same bytes", Box::new(move || keep(engine::adler(black_box(&d))))),
             ],
         );
     }
     for blocks in [32, 64, 65, 1000, 4096] {
         let bytes = make::ordinary(blocks);
-        let t = best(400, &mut [("", Box::new(move || drop(black_box(engine::read(black_box(&bytes), 0, 0)))))]);
+        let t = best(400, &mut [("", Box::new(move || keep(engine::read(black_box(&bytes), 0, 0))))]);
         println!("acceptance a block, of {blocks} blocks: {:.0} ns", t[0] / blocks as f64);
+    }
+}
+
+fn find() {
+    for commits in [10, 100, 1000, 2000] {
+        let (bytes, used) = make::deep(commits);
+        assert_eq!(store::open(&bytes).expect("the maker lays out a history").last, commits);
+        println!("read on an accepted store, inner function, {commits} commits");
+        for (what, r, sheet) in [("found in commit R, R the last", commits, 0), ("found in commit R, R in the middle", commits / 2, 0), ("found in the first commit, R the last", commits, 1)] {
+            assert_ne!(engine::look_up(&bytes, used, r, sheet), 0);
+            let (a, b) = (&bytes, &bytes);
+            let many = 200;
+            let t = best(
+                50,
+                &mut [
+                    ("", Box::new(|| (0..many).for_each(|_| keep(store::find(black_box(a), used, r, sheet))))),
+                    ("", Box::new(|| (0..many).for_each(|_| keep(engine::look_up(black_box(b), used, r, sheet))))),
+                ],
+            );
+            println!("  {what:<40} engine {:>8.0} ns, Rust {:>8.0} ns", t[1] / many as f64, t[0] / many as f64);
+        }
+    }
+}
+
+/// A call, the working copy that it starts from, and what it does with the store and the copy: its refusal.
+type Call<'a> = (&'a str, &'a [u8], &'a dyn Fn(&mut [u8], &mut [u8]) -> u32);
+
+/// The best time of each call, each time on fresh copies of the store and of its working copy; the calls take turns.
+fn best_calls(store: &[u8], calls: &[Call]) -> Vec<f64> {
+    let (mut s, mut w) = (store.to_vec(), vec![0; 16896]);
+    let mut times = vec![f64::MAX; calls.len()];
+    for _ in 0..60 {
+        for (t, (_, copy, f)) in times.iter_mut().zip(calls) {
+            s.copy_from_slice(store);
+            w.copy_from_slice(copy);
+            let start = Instant::now();
+            let refusal = f(black_box(&mut s), black_box(&mut w));
+            *t = t.min(start.elapsed().as_nanos() as f64);
+            assert_eq!(refusal, 0);
+        }
+    }
+    times
+}
+
+fn calls() {
+    for blocks in [32, 4096] {
+        let store = make::ordinary(blocks);
+        let opened = store::open(&store).expect("the maker lays out a history");
+        let (used, last, all) = (opened.used, opened.last as u32, u32::MAX);
+        let sheet = (0..31).find(|&i| engine::read(&store, last, i).refusal == 0).expect("some sheet is there");
+        let mut fresh = vec![0; 16896];
+        assert_eq!(engine::create_copy(&mut fresh, 1).refusal, 0);
+        let mut copy = fresh.clone();
+        assert_eq!(engine::update(&store, &mut copy, all, last).refusal, 0);
+        let mut edited = copy.clone();
+        assert_eq!(engine::edit(&store, &mut edited, sheet, b"edited").refusal, 0);
+        let bytes = [7; 480];
+        let calls: [Call; 14] = [
+            ("acceptance (read 0 0)", &copy, &|s, _| (engine::read(s, 0, 0).refusal != 8) as u32),
+            ("read", &copy, &|s, _| engine::read(s, last, sheet).refusal),
+            ("log", &copy, &|s, _| engine::log(s, last, sheet).refusal),
+            ("status", &copy, &|s, w| engine::status(s, w, sheet).refusal),
+            ("show", &copy, &|s, w| engine::show(s, w, sheet).refusal),
+            ("add", &copy, &|s, w| engine::add(s, w, 31, &bytes).refusal),
+            ("edit", &copy, &|s, w| engine::edit(s, w, sheet, &bytes).refusal),
+            ("delete", &copy, &|s, w| engine::delete(s, w, sheet).refusal),
+            ("copy", &copy, &|s, w| engine::copy_sheet(s, w, sheet, 31).refusal),
+            ("move", &copy, &|s, w| engine::move_sheet(s, w, sheet, 31).refusal),
+            ("commit of one edit", &edited, &|s, w| engine::commit(s, w, 7, all).refusal),
+            ("update of all sheets from 0 to the last", &fresh, &|s, w| engine::update(s, w, all, last).refusal),
+            ("update of all sheets from the last to 1", &copy, &|s, w| engine::update(s, w, all, 1).refusal),
+            ("revert of one edit", &edited, &|s, w| engine::revert(s, w, 1 << sheet).refusal),
+        ];
+        let times = best_calls(&store, &calls);
+        println!("calls on {blocks} blocks, {last} commits");
+        for ((what, _, _), t) in calls.iter().zip(&times) {
+            println!("  {what:<44} {t:>10.0} ns   {:>6.2} of acceptance", t / times[0]);
+        }
+        let (many, i) = (200, sheet as usize);
+        let inner = best(
+            50,
+            &mut [
+                ("status", Box::new(|| (0..many).for_each(|_| keep(engine::inner_status(black_box(&store), &copy, used, last as usize, 1, i))))),
+                ("read", Box::new(|| (0..many).for_each(|_| keep(engine::look_up(black_box(&store), used, last as usize, i))))),
+            ],
+        );
+        println!("  inner functions alone: status {:.0} ns, read {:.0} ns", inner[0] / many as f64, inner[1] / many as f64);
     }
 }
 
 fn main() {
     accept();
+    find();
+    calls();
 }

@@ -111,12 +111,12 @@ impl Rng {
     }
 }
 
-/// Ordinary content: sheets of 100 to 480 bytes, commits of one to three changes.
+/// Ordinary content: sheets of 100 to 480 bytes, commits of one to three changes; with at least four blocks left.
 pub fn ordinary(blocks: usize) -> Vec<u8> {
     let mut rng = Rng(7);
     let mut m = Maker::new(blocks);
     let mut present = [false; 32];
-    while m.room() >= 4 {
+    while m.room() >= 8 {
         let sheets: Vec<usize> = (0..1 + rng.below(3)).map(|j| (rng.below(10) * 3 + j) % 32).collect();
         let contents: Vec<Vec<u8>> = sheets.iter().map(|_| {
             let n = 100 + rng.below(381);
@@ -164,4 +164,14 @@ pub fn compared(blocks: usize) -> Vec<u8> {
         m.commit(1, 7, &deletes);
     }
     m.store
+}
+
+/// Sheet 1 in the first commit alone, then sheet 0 in each of the commits, on 4,096 blocks. The blocks used.
+pub fn deep(commits: usize) -> (Vec<u8>, usize) {
+    let mut m = Maker::new(4096);
+    m.commit(1, 7, &[add(0, b"0"), add(1, b"1")]);
+    for _ in 1..commits {
+        m.commit(1, 7, &[change(0, b"0")]);
+    }
+    (m.store, m.used)
 }
