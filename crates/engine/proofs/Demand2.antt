@@ -26,7 +26,7 @@ use Rattle.laws.proofs.Conditions.{clear}
 use Rattle.laws.proofs.Demand2.{demand-two}
 use Rattle.laws.proofs.Places.{heard-block}
 use Rattle.laws.proofs.Store.{accepted-holds}
-use Rattle.engine.proofs.Looking.{beyond-last, log-there, read-found}
+use Rattle.inner.proofs.Looking.{beyond-last, log-there, read-found}
 use Rattle.search.proofs.Finding.{block-lacks, open-asked}
 use Rattle.search.proofs.Revisions.{passed}
 use Rattle.store.proofs.Opening.{accepted-open, open-accepted}

@@ -1,10 +1,6 @@
 -- The laws that the proofs of `engine` and of its callers cite, and demand 2.
 pub mod Fresh
-pub mod Refusing
-pub mod Looking
 pub mod Parts
 pub mod Demand2
-pub mod Changing
-pub mod Showing
 pub mod Demand3
 pub mod Demand1

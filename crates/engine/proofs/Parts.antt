@@ -14,7 +14,7 @@ use Rattle.model.specs.Types.{placeOf}
 use Rattle.model.specs.declared.Place.the-variants.{InCopy, InStore, Refused}
 use Rattle.model.specs.declared.Refusal.{Refusal}
 use Rattle.model.specs.declared.Span.{Span}
-use Rattle.engine.specs.Place.{PartAt, ShownAt}
+use Rattle.engine.specs.Part.{PartAt, ShownAt}
 
 -- `&s[a..a + len]`
 part-is : (s : RefT (List ℕ)) (a len γ : ℕ) → PartAt s (slPart s (byByte a (s .ptr .1)) a (a + len) γ) (a, len)

@@ -1,2 +1,2 @@
--- The definitions that the contracts of `engine` cite beside those of `model`.
-pub mod Place
+-- The definitions that the contracts of `engine` cite beside those of `model` and `inner`.
+pub mod Part

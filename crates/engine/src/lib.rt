@@ -10,7 +10,8 @@ ghost use Rattle.model.specs.Refusals.{noSheet};
 ghost use Rattle.model.specs.Types.{answerOf, createdAs, numberOf};
 ghost use Rattle.store.specs.Opened.{openOf};
 ghost use Rattle.store.specs.declared.Opened.the-variants.{Open};
-ghost use Rattle.engine.specs.Place.{Located, PartAt, ShownAt, hasOwn};
+ghost use Rattle.engine.specs.Part.{PartAt, ShownAt};
+ghost use Rattle.inner.specs.Place.{Located};
 use entries::Checked;
 use entries::View;
 use model::Answer;
@@ -61,32 +62,6 @@ pub fn create_copy(copy: &mut [u8], seat: u32) -> Answer
 
 // ---- looking
 
-// Line 7 of read and log: a sheet number above 31, or a revision above the last.
-fn beyond(h: Header, revision: u32, sheet: u32) -> bool
-    ensures { λ r. ⌜ r ≡ (noSheet sheet || ltb (h .last) revision) ⌝ }
-{
-    if 31 < sheet {
-        return true;
-    }
-    h.last < revision as usize
-}
-
-// The companion of read, on a store that is open.
-fn place_in(store: &[u8], h: Header, revision: u32, sheet: u32) -> Place
-    requires { ⌜ openOf (now store) ≡ Open h ⌝ }
-    ensures { λ r. ⌜ Located (now (store .entry)) [] (readPlace (now (store .entry)) revision sheet) r ⌝ }
-{
-    if beyond(h, revision, sheet) {
-        return Place::Refused(Refusal::Range);
-    }
-    let n = store.len() / 512;
-    let found = search::look_up(store, n, h.used, revision as usize, sheet as usize);
-    if found.block == 0 {
-        return Place::Refused(Refusal::Missing);
-    }
-    Place::InStore(search::span_at(store, found.block))
-}
-
 // The companion of read: the refusal, or where the bytes of the sheet stand in the store.
 pub fn read_place(store: &[u8], revision: u32, sheet: u32) -> Place
     ensures { λ r. ⌜ Located (now (store .entry)) [] (readPlace (now (store .entry)) revision sheet) r ⌝ }
@@ -94,7 +69,7 @@ pub fn read_place(store: &[u8], revision: u32, sheet: u32) -> Place
     let opened = store::open(store);
     match opened {
         Opened::Refused(k) => Place::Refused(k),
-        Opened::Open(h) => place_in(store, h, revision, sheet),
+        Opened::Open(h) => inner::place_in(store, h, revision, sheet),
     }
 }
 
@@ -114,21 +89,6 @@ pub fn read(store: &[u8], revision: u32, sheet: u32) -> &[u8]
     }
 }
 
-// Log on a store that is open.
-fn log_in(store: &[u8], h: Header, revision: u32, sheet: u32) -> Answer
-    requires { ⌜ openOf (now store) ≡ Open h ⌝ }
-    ensures { λ r. ⌜ answerOf r ≡ logCall (now (store .entry)) revision sheet ⌝ }
-{
-    if revision == 0 {
-        return Answer::Refused(Refusal::Range);
-    }
-    if beyond(h, revision, sheet) {
-        return Answer::Refused(Refusal::Range);
-    }
-    let n = store.len() / 512;
-    Answer::Logged(search::log_at(store, n, h.used, revision as usize, sheet as usize))
-}
-
 // Seat, stamp and number of changes of a commit, and what it did to the sheet.
 pub fn log(store: &[u8], revision: u32, sheet: u32) -> Answer
     ensures { λ r. ⌜ answerOf r ≡ logCall (now (store .entry)) revision sheet ⌝ }
@@ -136,44 +96,8 @@ pub fn log(store: &[u8], revision: u32, sheet: u32) -> Answer
     let opened = store::open(store);
     match opened {
         Opened::Refused(k) => Answer::Refused(k),
-        Opened::Open(h) => log_in(store, h, revision, sheet),
+        Opened::Open(h) => inner::log_in(store, h, revision, sheet),
     }
-}
-
-// Whether an entry in this state has bytes of its own.
-fn own_bytes(s: State) -> bool
-    ensures { λ r. ⌜ r ≡ hasOwn s ⌝ }
-{
-    match s {
-        State::Empty => false,
-        State::Normal(_) => true,
-        State::Added => true,
-        State::Deleted(_) => false,
-        State::Copied(_) => true,
-    }
-}
-
-// The companion of show, on a store and a working copy that fits it.
-fn shown_in<'a>(store: &'a [u8], copy: &'a [u8], v: View, sheet: u32) -> Place
-    requires { ⌜ Fitting (now store) (now copy) v ⌝ }
-    ensures { λ r. ⌜ Located (now (store .entry)) (now (copy .entry)) (showPlace (now (store .entry)) (now (copy .entry)) sheet) r ⌝ }
-{
-    if 31 < sheet {
-        return Place::Refused(Refusal::Range);
-    }
-    let i = sheet as usize;
-    let e = workcopy::entry_at(copy, i);
-    let state = e.state;
-    if own_bytes(state) {
-        let start = 512 * (1 + i) + 16;
-        let len = e.len;
-        return Place::InCopy(Span { start, len });
-    }
-    let found = search::look_up(store, v.n, v.used, v.last, i);
-    if found.block == 0 {
-        return Place::Refused(Refusal::Missing);
-    }
-    Place::InStore(search::span_at(store, found.block))
 }
 
 // The companion of show: the refusal, or where the bytes stand, in the working copy or in the store.
@@ -183,7 +107,7 @@ pub fn show_place<'a>(store: &'a [u8], copy: &'a [u8], sheet: u32) -> Place
     let c = entries::check(store, copy);
     match c {
         Checked::Refused(k) => Place::Refused(k),
-        Checked::Ready(v) => shown_in(store, copy, v, sheet),
+        Checked::Ready(v) => inner::shown_in(store, copy, v, sheet),
     }
 }
 
@@ -207,17 +131,6 @@ pub fn show<'a>(store: &'a [u8], copy: &'a [u8], sheet: u32) -> &'a [u8]
     }
 }
 
-// The status of an entry, on a store and a working copy that fits it.
-fn status_in<'a>(store: &'a [u8], copy: &'a [u8], v: View, sheet: u32) -> Answer
-    requires { ⌜ Fitting (now store) (now copy) v ⌝ }
-    ensures { λ r. ⌜ answerOf r ≡ statusCall (now (store .entry)) (now (copy .entry)) sheet ⌝ }
-{
-    if 31 < sheet {
-        return Answer::Refused(Refusal::Range);
-    }
-    Answer::Status(entries::status_at(store, copy, v, sheet as usize))
-}
-
 // The status of a sheet's entry, 0 to 8.
 pub fn status<'a>(store: &'a [u8], copy: &'a [u8], sheet: u32) -> Answer
     ensures { λ r. ⌜ answerOf r ≡ statusCall (now (store .entry)) (now (copy .entry)) sheet ⌝ }
@@ -225,7 +138,7 @@ pub fn status<'a>(store: &'a [u8], copy: &'a [u8], sheet: u32) -> Answer
     let c = entries::check(store, copy);
     match c {
         Checked::Refused(k) => Answer::Refused(k),
-        Checked::Ready(v) => status_in(store, copy, v, sheet),
+        Checked::Ready(v) => inner::status_in(store, copy, v, sheet),
     }
 }
 
@@ -295,7 +208,10 @@ pub fn commit(store: &mut [u8], copy: &mut [u8], stamp: u32, mask: u32) -> Answe
     let c = entries::check(store, copy);
     match c {
         Checked::Refused(k) => Answer::Refused(k),
-        Checked::Ready(v) => filing::commit(store, copy, v, stamp, mask),
+        Checked::Ready(v) => {
+            let filed = filing::commit(store, copy, v, stamp, mask);
+            filed.answer
+        }
     }
 }
 

@@ -4,3 +4,4 @@ pub mod Checking
 pub mod States
 pub mod Comparing
 pub mod Updating
+pub mod Keeping

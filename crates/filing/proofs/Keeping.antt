@@ -1,101 +1,75 @@
--- After the inner commit: it is the document's call, both buffers are accepted again and fit, so does another seat's copy beside the store, and where the commit is done the
--- store's blocks in use and last revision have grown.
+-- The store's numbers after the inner commit: refused they stay, and where it is done the blocks in use and the last revision have grown.
 -- Assumes nothing.
-use Prim.Native.Nat.{_*_, _+_, _<_, _^_, suc, ℕ}
+use Prim.Native.Nat.{_+_, _<_, _^_, ℕ}
 use mathlib.Core.List.{[], _++_, _∷_}
 use mathlib.Core.Option.{Option, none, some}
 use mathlib.Core.Path.{_∙_, _≡_, ap, subst, sym}
 use native.Mathlib.Omega.{arith}
-use lib.ListN.{length, length-append}
-use Rattle.model.specs.Blocks.{fieldsOf}
-use Rattle.model.specs.Calls.{Out, call, copyConditions, sideIn, storeConditions}
+use lib.ListN.{length-append}
+use Rattle.model.specs.Calls.{Out, call, changeBy, sideIn}
 use Rattle.model.specs.History.{Bytes, last}
-use Rattle.model.specs.Machine.{Commits, Side, blocksFor, commitChanges, committing, newCommit, revision}
+use Rattle.model.specs.Machine.{Commits, Side, blocksFor, commitChanges, committing, newCommit, refused, revision}
 use Rattle.model.specs.Refusals.{conditions, firstOf}
 use Rattle.model.specs.Run.{sideBy, sideStep}
-use Rattle.model.specs.Shows.{Accepted, Seen}
-use Rattle.model.specs.Store.{blockCount, blocksOf, front, historyOf, storeHistory, usedOf}
-use Rattle.model.specs.Types.{answerOf}
-use Rattle.model.specs.WorkCopy.{entriesOf, seatOf}
-use Rattle.model.specs.declared.Answer.{Answer}
-use Rattle.model.specs.declared.Answer.the-variants.{Revision as TheRevision}
-use Rattle.laws.proofs.Accepted.{accepted-call, others-accepted, stays-accepted}
-use Rattle.laws.proofs.Conditions.{clear, clear-first}
-use Rattle.laws.proofs.Store.{holds-accepted}
-use Rattle.laws.proofs.WorkCopy.{holds-copy, length-joined}
-use Rattle.laws.proofs.Writing.{holds-blocks}
-use Rattle.entries.proofs.Checking.{check-ready, fitting-accepted, inner-call}
-use Rattle.entries.specs.View.{Fitting, checkOf, checkedBy, innerOut, outAs, viewOf}
+use Rattle.model.specs.Shows.{Seen}
+use Rattle.model.specs.Store.{blockCount, storeHistory, usedOf}
+use Rattle.model.specs.declared.Answer.the-variants.{Refused, Revision as TheRevision}
+use Rattle.model.specs.declared.Refusal.{Refusal}
+use Rattle.laws.proofs.Accepted.{accepted-call}
+use Rattle.commits.proofs.Answers.{told-done}
+use Rattle.commits.specs.Outcome.{Answered}
+use Rattle.commits.specs.declared.Outcome.{Outcome}
+use Rattle.commits.specs.declared.Outcome.the-variants.{Done}
+use Rattle.entries.proofs.Checking.{fitting-accepted, inner-call}
+use Rattle.entries.proofs.Keeping.{seen-numbers}
+use Rattle.entries.specs.View.{Fitting, innerOut, outAs}
 use Rattle.entries.specs.declared.View.{View}
+use Rattle.filing.specs.Filed.{FiledAs, unfiledAs}
+use Rattle.filing.specs.declared.Filed.{Filed}
 
--- buffers that no line from 1 to 6 refuses fit, with the numbers that they state
-accepted-fitting : (store copy : Bytes) → Accepted store copy → Fitting store copy (viewOf store copy)
-unfolding checkOf
-accepted-fitting store copy A =
-    let c = clear-first (storeConditions store) (copyConditions store copy) (clear (storeConditions store) (A .storeTaken)) in
-    check-ready store copy (viewOf store copy) (ap (λ (o : Option ℕ). checkedBy o (viewOf store copy)) (c ∙ A .copyTaken))
+apart : (n R : ℕ) → refused n ≡ revision R → ⊥
+apart n R e = let z : _≡_ {A = ℕ} 0 1 = cc in omega arith
 
--- the numbers of a side, and buffers that hold it state them
-abbrev viewAs : Side → View
-viewAs d = record { n = d .blocks; used = d .used; last = last (d .history); seat = d .seat }
+module _ (store copy : Bytes) (v : View) (F : Fitting store copy v) (stamp mask : ℕ) where
+  abbrev d : Side
+  d = sideIn store copy
 
-seen-view : (N : ℕ) (store copy : Bytes) (d : Side) → Seen N store copy d → viewOf store copy ≡ viewAs d
-seen-view N store copy d E =
-    let B = holds-blocks N store (d .history) (E .stored .holds) in
-    let l : length store ≡ N * 512 = ap length (sym (B .bytes)) ∙ length-joined fieldsOf (blocksOf N store) ∙ ap (λ (n : ℕ). n * 512) (B .count) in
-    let c : blockCount store ≡ N = omega (arith, l) in
-    let n : blockCount store ≡ d .blocks = c ∙ sym (E .blocks) in
-    let u : usedOf store ≡ d .used = ap (λ (n : ℕ). length (front (blocksOf n store))) c ∙ E .stored .uses in
-    let h : storeHistory store ≡ d .history = ap (λ (n : ℕ). historyOf n store) c ∙ holds-accepted N store (d .history) (E .stored .holds) .2 in
-    let s : seatOf copy ≡ d .seat = holds-copy copy (d .seat) (d .entries) (E .copied) .2 in
-    λ i. record { n = n i; used = u i; last = last (h i); seat = s i }
+  -- THE STATEMENTS: a refused commit leaves the store, and so its numbers
+  same-store : (k : Refusal) {store′ copy′ : Bytes} (o : Option ℕ) → outAs (Refused k) store′ copy′ ≡ changeBy o store copy (Commits stamp mask) → store′ ≡ store
+  same-store k (some n) e = ap (λ (x : Out). x .store) e
+  same-store k none e = absurd (apart _ _ (ap (λ (x : Out). x .says) e))
 
-module _ (store copy : Bytes) (v : View) (F : Fitting store copy v) where
-  abbrev taken : Accepted store copy
-  taken = fitting-accepted store copy v F
-
-  -- the numbers with a commit of the chosen entries
-  abbrev pub grownView : ℕ → View
-  grownView mask = record {
-    n = v .n;
-    used = v .used + blocksFor (storeHistory store) (commitChanges (storeHistory store) mask (entriesOf copy));
-    last = v .last + 1;
-    seat = v .seat;
-  }
-
-  grown-by : (stamp mask : ℕ) (o : Option ℕ) {R : ℕ} {store′ copy′ : Bytes} → revision R ≡ sideBy o (sideIn store copy) (Commits stamp mask) .0
-      → Seen (blockCount store) store′ copy′ (sideBy o (sideIn store copy) (Commits stamp mask) .1) → (viewOf store′ copy′ ≡ grownView mask) × (R ≡ v .last + 1)
-  grown-by stamp mask (some n) e E = let z : _≡_ {A = ℕ} 0 1 = cc in absurd (omega arith)
-  grown-by stamp mask none {R} {store′} {copy′} e E =
-      let d : Side = sideIn store copy in
+  pub filed-refused : (k : Refusal) {r : Filed} {store′ copy′ : Bytes} → r ≡ unfiledAs v k → outAs (Refused k) store′ copy′ ≡ innerOut store copy (Commits stamp mask)
+      → FiledAs store copy stamp mask r store′ copy′
+  unfolding innerOut
+  filed-refused k {r} {store′} {copy′} q e =
+      let s : store ≡ store′ = sym (same-store k (firstOf (conditions d (Commits stamp mask))) e) in
       let O = F .viewed .opened in
-      let k : ℕ = blocksFor (d .history) (commitChanges (d .history) mask (d .entries)) in
-      let u : d .used + k ≡ v .used + k = omega (arith, O .accepted .inUse) in
-      let l : last (d .history ++ (newCommit d stamp mask ∷ [])) ≡ v .last + 1 = length-append (d .history) (newCommit d stamp mask ∷ []) ∙ omega (arith, O .last) in
-      let R≡ : R ≡ suc (last (d .history)) = cc in (
-        seen-view (blockCount store) store′ copy′ (committing d stamp mask) E ∙ (λ i. record { n = sym (O .accepted .count) i; used = u i; last = l i; seat = sym (F .seat) i }),
-        omega (arith, R≡, O .last),
+      subst (λ (x : Filed). FiledAs store copy stamp mask x store′ copy′) (sym q)
+      (record { is = e; used = O .accepted .inUse ∙ ap usedOf s; last = O .last ∙ ap (λ (x : Bytes). last (storeHistory x)) s })
+
+  -- one that is done, and answers R, has grown the history by one commit and the blocks in use by those of the commit
+  grown : (o : Option ℕ) {R : ℕ} {store′ copy′ : Bytes} → revision R ≡ sideBy o d (Commits stamp mask) .0 → Seen (blockCount store) store′ copy′ (sideBy o d (Commits stamp mask) .1)
+      → (usedOf store′ ≡ v .used + blocksFor (d .history) (commitChanges (d .history) mask (d .entries))) × (last (storeHistory store′) ≡ v .last + 1)
+  grown (some n) e E = let z : _≡_ {A = ℕ} 0 1 = cc in absurd (omega arith)
+  grown none {store′ = store′} {copy′ = copy′} e E =
+      let O = F .viewed .opened in
+      let n = seen-numbers (blockCount store) store′ copy′ (committing d stamp mask) E in (
+        n .1 ∙ ap (λ (u : ℕ). u + blocksFor (d .history) (commitChanges (d .history) mask (d .entries))) (sym (O .accepted .inUse)),
+        ap last (n .2) ∙ length-append (d .history) (newCommit d stamp mask ∷ []) ∙ omega (arith, O .last),
       )
 
-  module _ (stamp mask : ℕ) (g : stamp < 2 ^ 32) (r : Answer) {store′ copy′ : Bytes} (e : outAs r store′ copy′ ≡ innerOut store copy (Commits stamp mask)) where
-    left : outAs r store′ copy′ ≡ call store copy (Commits stamp mask)
-    left = e ∙ inner-call store copy v F (Commits stamp mask)
-
-    -- THE STATEMENTS: the buffers that a commit leaves fit
-    pub commit-fitting : Fitting store′ copy′ (viewOf store′ copy′)
-    commit-fitting = accepted-fitting store′ copy′ (subst (λ (o : Out). Accepted (o .store) (o .copy)) (sym left) (stays-accepted store copy taken (Commits stamp mask) g))
-
-    -- and another seat's copy with the store
-    pub others-fitting : (other : Bytes) (w : View) → Fitting store other w → Fitting store′ other (viewOf store′ other)
-    others-fitting other w G =
-        accepted-fitting store′ other
-        (subst (λ (o : Out). Accepted (o .store) other) (sym left) (others-accepted store copy other taken (fitting-accepted store other w G) (Commits stamp mask) g))
-
-    -- where a commit answers its revision, the store has grown by its blocks and by that revision
-    pub commit-grown : {R : ℕ} → r ≡ TheRevision R → (viewOf store′ copy′ ≡ grownView mask) × (R ≡ v .last + 1)
-    commit-grown {R} q =
-        let w = accepted-call store copy taken (Commits stamp mask) g in
-        let d : Side = sideIn store copy in
-        let s : revision R ≡ sideStep d (Commits stamp mask) .0 = ap answerOf (sym q) ∙ ap (λ (o : Out). o .says) left ∙ w .0 in
-        grown-by stamp mask (firstOf (conditions d (Commits stamp mask))) s
-        (subst (λ (o : Out). Seen (blockCount store) (o .store) (o .copy) (sideStep d (Commits stamp mask) .1)) (sym left) (w .1))
+  pub filed-done : stamp < 2 ^ 32 → {R u : ℕ} {o : Outcome} {store′ copy′ : Bytes} → Answered store copy store′ stamp mask o → o ≡ Done u
+      → outAs (TheRevision R) store′ copy′ ≡ innerOut store copy (Commits stamp mask)
+      → FiledAs store copy stamp mask (record { answer = TheRevision R; used = u; last = v .last + 1 }) store′ copy′
+  filed-done g {R} {u} {o} {store′} {copy′} A q e =
+      let w = accepted-call store copy (fitting-accepted store copy v F) (Commits stamp mask) g in
+      let left : outAs (TheRevision R) store′ copy′ ≡ call store copy (Commits stamp mask) = e ∙ inner-call store copy v F (Commits stamp mask) in
+      let t = told-done store copy store′ stamp mask u (subst (Answered store copy store′ stamp mask) q A) in
+      let n = grown (firstOf (conditions d (Commits stamp mask))) (ap (λ (x : Out). x .says) left ∙ w .0)
+      (subst (λ (x : Out). Seen (blockCount store) (x .store) (x .copy) (sideStep d (Commits stamp mask) .1)) (sym left) (w .1)) in
+      record {
+        is = e;
+        used = t .2 ∙ ap (λ (n : ℕ). n + blocksFor (d .history) (commitChanges (d .history) mask (d .entries))) (sym (F .viewed .opened .accepted .inUse)) ∙ sym (n .0);
+        last = sym (n .1);
+      }

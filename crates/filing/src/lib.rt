@@ -11,10 +11,9 @@ ghost use mathlib.Core.Path.{_≡_};
 ghost use lib.ListN.{length, set};
 ghost use Rattle.commits.specs.Outcome.{RightFlags};
 ghost use Rattle.entries.specs.View.{Fitting, entryIn};
+ghost use Rattle.filing.specs.Filed.{FiledAs, unfiledAs};
 ghost use Rattle.filing.specs.Inner.{Settling, altered, settledAs, settledRows, settledState, sourceBlock, staysAs};
-ghost use Rattle.entries.specs.View.{innerOut, outAs};
 ghost use Rattle.model.specs.Calls.{sideIn};
-ghost use Rattle.model.specs.Machine.{Commits};
 ghost use Rattle.model.specs.Refusals.{someStale};
 ghost use Rattle.model.specs.Store.{storeHistory};
 ghost use Rattle.model.specs.WorkCopy.{copyBytes, entriesOf, seatOf};
@@ -159,16 +158,34 @@ fn settle(copy: &mut [u8], mask: u32, revision: u32, changed: &[u8])
 
 // ---- the commit
 
+// The answer of a commit, and the store's blocks in use and last revision then.
+pub struct Filed {
+    pub answer: Answer,
+    pub used: usize,
+    pub last: usize,
+}
+
+// Nothing is filed: the store's numbers stay.
+fn unfiled(v: View, k: Refusal) -> Filed
+    ensures { λ r. ⌜ r ≡ unfiledAs v k ⌝ }
+{
+    Filed {
+        answer: Answer::Refused(k),
+        used: v.used,
+        last: v.last,
+    }
+}
+
 // Commits the chosen entries, or the refusal.
-pub fn commit(store: &mut [u8], copy: &mut [u8], v: View, stamp: u32, mask: u32) -> Answer
+pub fn commit(store: &mut [u8], copy: &mut [u8], v: View, stamp: u32, mask: u32) -> Filed
     requires { ⌜ Fitting (now store) (now copy) v ⌝ }
-    ensures { λ r. ⌜ outAs r (now (store .exit)) (now (copy .exit)) ≡ innerOut (now (store .entry)) (now (copy .entry)) (Commits stamp mask) ⌝ }
+    ensures { λ r. ⌜ FiledAs (now (store .entry)) (now (copy .entry)) stamp mask r (now (store .exit)) (now (copy .exit)) ⌝ }
 {
     if mask == 0 {
-        return Answer::Refused(Refusal::Range);
+        return unfiled(v, Refusal::Range);
     }
     if any_stale(store, copy, v, mask) {
-        return Answer::Refused(Refusal::OutOfDate);
+        return unfiled(v, Refusal::OutOfDate);
     }
     let flags = note_flags(store, copy, v, mask);
     let changed = flags.changed;
@@ -188,12 +205,16 @@ pub fn commit(store: &mut [u8], copy: &mut [u8], v: View, stamp: u32, mask: u32)
         &places,
     );
     match o {
-        Outcome::Nothing => Answer::Refused(Refusal::NothingPending),
-        Outcome::NoRoom => Answer::Refused(Refusal::NoRoom),
-        Outcome::Done(_) => {
+        Outcome::Nothing => unfiled(v, Refusal::NothingPending),
+        Outcome::NoRoom => unfiled(v, Refusal::NoRoom),
+        Outcome::Done(used) => {
             let revision = next as u32;
             settle(copy, mask, revision, &changed);
-            Answer::Revision(revision)
+            Filed {
+                answer: Answer::Revision(revision),
+                used,
+                last: next,
+            }
         }
     }
 }

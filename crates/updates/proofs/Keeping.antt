@@ -1,28 +1,26 @@
--- A copy that fits a store still fits it when entries that fit take the place of others; and with an inner call done on it.
+-- A copy that fits a store still fits it when entries that fit take the place of others.
 -- Assumes nothing.
 use Prim.Native.Nat.{_≤_, ℕ}
 use mathlib.Core.List.{List}
-use mathlib.Core.Option.{Option, none, some}
-use mathlib.Core.Path.{_∙_, _≡_, ap, refl, subst, sym}
+use mathlib.Core.Path.{_∙_, _≡_, ap, sym}
 use native.Mathlib.Omega.{arith}
 use lib.ListN.{set}
 use lib.Seq.{set-getD}
-use Rattle.model.specs.Calls.{Out, changeBy, sideIn}
+use Rattle.model.specs.Calls.{sideIn}
 use Rattle.model.specs.Entry.{Entry, empty}
 use Rattle.model.specs.Fitting.{fitsStore}
 use Rattle.model.specs.History.{Bytes, History}
 use Rattle.model.specs.Invariant.{FitsAt}
-use Rattle.model.specs.Machine.{Call, Revert, Side, Update as UpdateCall, withEntries}
-use Rattle.model.specs.Refusals.{conditions, firstOf}
+use Rattle.model.specs.Machine.{Side, withEntries}
 use Rattle.model.specs.Store.{storeHistory}
 use Rattle.model.specs.WorkCopy.{FitsCopyBlock, HoldsCopy, copyBytes, entriesOf, entryBlock, seatOf}
 use Rattle.laws.proofs.Accepted.{accepted-kept, accepted-seen}
-use Rattle.laws.proofs.Invariant.{KeptSide, kept-doing, kept-entry}
+use Rattle.laws.proofs.Invariant.{KeptSide, kept-entry}
 use Rattle.laws.proofs.Steps.{fits-all, fits-piece, laid-copy}
 use Rattle.laws.proofs.Trees.{used-low}
 use Rattle.laws.proofs.WorkCopy.{holds-copy}
 use Rattle.entries.proofs.Checking.{fitting-accepted}
-use Rattle.entries.specs.View.{Fitting, entryIn, innerOut}
+use Rattle.entries.specs.View.{Fitting, entryIn}
 use Rattle.entries.specs.declared.View.{View}
 use Rattle.workcopy.proofs.Entries.{held}
 
@@ -60,23 +58,6 @@ module _ (store copy : Bytes) (v : View) (F : Fitting store copy v) where
   -- THE STATEMENTS: with one other entry, which fits
   pub fitting-entry : (k : ℕ) (e : Entry) → FitsAt h k e → Fitting store (copyBytes (seatOf copy) (set (entriesOf copy) k e)) v
   fitting-entry k e f = fitting-of (set (entriesOf copy) k e) (kept-entry d k e kept f)
-
-  -- a refused call leaves the copy
-  fitting-left : (c : Call) → (firstOf (conditions d c) ≡ none → Fitting store (changeBy none store copy c .copy) v) → {o : Out} → o ≡ innerOut store copy c
-      → Fitting store (o .copy) v
-  unfolding innerOut
-  fitting-left c f q = subst (λ (o : Out). Fitting store (o .copy) v) (sym q) (go (firstOf (conditions d c)) refl)
-    where
-      go : (o : Option ℕ) → firstOf (conditions d c) ≡ o → Fitting store (changeBy o store copy c .copy) v
-      go (some n) e = F
-      go none e = f e
-
-  -- what revert and update leave, refused or done
-  pub revert-fitting : (mask : ℕ) {o : Out} → o ≡ innerOut store copy (Revert mask) → Fitting store (o .copy) v
-  revert-fitting mask q = fitting-left (Revert mask) (λ e. fitting-of _ (kept-doing d (Revert mask) e (seats .0) (seats .1) tt kept)) q
-
-  pub update-fitting : (mask R : ℕ) {o : Out} → o ≡ innerOut store copy (UpdateCall mask R) → Fitting store (o .copy) v
-  update-fitting mask R q = fitting-left (UpdateCall mask R) (λ e. fitting-of _ (kept-doing d (UpdateCall mask R) e (seats .0) (seats .1) tt kept)) q
 
   -- the copy is that of its entries, also with one of them put again
   pub same-copy : copy ≡ copyBytes (seatOf copy) (entriesOf copy)

@@ -3,7 +3,7 @@
 use mathlib.Core.Path.{_∙_, sym}
 use Rattle.entries.proofs.Checking.{check-ready}
 use Rattle.model.specs.Machine.{Commits}
-use Rattle.engine.proofs.Changing.{inner-done, refused-call}
+use Rattle.inner.proofs.Changing.{inner-done, refused-call}
 use borrow.Author.Needs.{needs}
 use Rattle.engine.proofs.commit.Statement.{statement}
 use Rattle.engine.proofs.commit.Tie as tie
@@ -18,9 +18,7 @@ enum-known-c-2 : tie.Need-enum-known-c-2
 enum-known-c-2 c = search needs
 
 commit-requires : tie.Need-commit-requires
-commit-requires c κs =
-    let a = c .before .before .before .before .before .before .before .before .before .before .args in
-    check-ready (a .store .now) (a .copy .now) (c .before .before .before .c2 .given .0 .0) (sym (c .before .before .before .before .before .check .ensures) ∙ c .before .before .before .c2 .given .1)
+commit-requires c κs = let a = c .before .before .before .before .before .before .before .before .before .before .args in check-ready (a .store .now) (a .copy .now) (c .before .before .before .c2 .given .0 .0) (sym (c .before .before .before .before .before .check .ensures) ∙ c .before .before .before .c2 .given .1)
 
 same-length : tie.Need-same-length
 same-length c = search needs
@@ -30,8 +28,7 @@ same-length-2 c = search needs
 
 returns : tie.Need-returns
 returns c =
-    let a = c .before .before .before .before .before .before .before .before .args in
-    refused-call (a .store .now) (a .copy .now) (c .before .c .given .0 .0) (Commits (a .stamp) (a .mask)) (sym (c .before .before .before .check .ensures) ∙ c .before .c .given .1)
+    let a = c .before .before .before .before .before .before .before .before .args in refused-call (a .store .now) (a .copy .now) (c .before .c .given .0 .0) (Commits (a .stamp) (a .mask)) (sym (c .before .before .before .check .ensures) ∙ c .before .c .given .1)
 
 same-length-3 : tie.Need-same-length-3
 same-length-3 c = search needs
@@ -42,7 +39,7 @@ same-length-4 c = search needs
 returns-2 : tie.Need-returns-2
 returns-2 c =
     let a = c .before .before .before .before .before .before .before .before .before .before .before .before .before .before .before .args in
-    inner-done (a .store .now) (a .copy .now) (c .before .before .before .before .before .before .before .before .c2 .given .0 .0) (Commits (a .stamp) (a .mask)) (sym (c .before .before .before .before .before .before .before .before .before .before .check .ensures) ∙ c .before .before .before .before .before .before .before .before .c2 .given .1) (c .before .before .before .before .commit .ensures)
+    inner-done (a .store .now) (a .copy .now) (c .before .before .before .before .before .before .before .before .c2 .given .0 .0) (Commits (a .stamp) (a .mask)) (sym (c .before .before .before .before .before .before .before .before .before .before .check .ensures) ∙ c .before .before .before .before .before .before .before .before .c2 .given .1) (c .before .before .before .before .commit .ensures .is)
 
 pub commit-spec : {M : Type 1} → statement M
 commit-spec =

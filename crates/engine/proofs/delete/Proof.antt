@@ -3,7 +3,7 @@
 use mathlib.Core.Path.{_∙_, sym}
 use Rattle.entries.proofs.Checking.{check-ready}
 use Rattle.model.specs.Machine.{Delete}
-use Rattle.engine.proofs.Changing.{local-done, refused-call}
+use Rattle.inner.proofs.Changing.{local-done, refused-call}
 use borrow.Author.Needs.{needs}
 use Rattle.engine.proofs.delete.Statement.{statement}
 use Rattle.engine.proofs.delete.Tie as tie

@@ -2,7 +2,7 @@
 -- Assumes nothing.
 use mathlib.Core.Path.{_∙_, sym}
 use borrow.Author.Needs.{needs}
-use Rattle.engine.proofs.Looking.{log-refused}
+use Rattle.inner.proofs.Looking.{log-refused}
 use Rattle.engine.proofs.log.Statement.{statement}
 use Rattle.engine.proofs.log.Tie as tie
 

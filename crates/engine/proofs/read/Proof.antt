@@ -7,7 +7,7 @@ use borrow.Author.Needs.{needs}
 use Rattle.model.specs.Types.{placeOf}
 use Rattle.engine.proofs.Parts.{part-none, part-refused, part-there}
 use Rattle.engine.proofs.read.Statement.{statement}
-use Rattle.engine.specs.Place.{Inside}
+use Rattle.inner.specs.Place.{Inside}
 use Rattle.engine.proofs.read.Tie as tie
 
 read-place-requires : tie.Need-read-place-requires

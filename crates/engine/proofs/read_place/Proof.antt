@@ -2,7 +2,7 @@
 -- Assumes nothing.
 use mathlib.Core.Path.{_∙_, sym}
 use borrow.Author.Needs.{needs}
-use Rattle.engine.proofs.Looking.{read-refused}
+use Rattle.inner.proofs.Looking.{read-refused}
 use Rattle.engine.proofs.read_place.Statement.{statement}
 use Rattle.engine.proofs.read_place.Tie as tie
 

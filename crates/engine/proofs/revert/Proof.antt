@@ -3,7 +3,7 @@
 use mathlib.Core.Path.{_∙_, sym}
 use Rattle.entries.proofs.Checking.{check-ready}
 use Rattle.model.specs.Machine.{Revert}
-use Rattle.engine.proofs.Changing.{inner-done, refused-call}
+use Rattle.inner.proofs.Changing.{inner-done, refused-call}
 use borrow.Author.Needs.{needs}
 use Rattle.engine.proofs.revert.Statement.{statement}
 use Rattle.engine.proofs.revert.Tie as tie

@@ -4,7 +4,7 @@ use mathlib.Core.Path.{_∙_, ap, subst, sym}
 use native.Mathlib.Omega.{arith}
 use Rattle.model.specs.Types.{placeOf}
 use Rattle.engine.proofs.Parts.{shown-own, shown-refused, shown-there}
-use Rattle.engine.specs.Place.{Inside}
+use Rattle.inner.specs.Place.{Inside}
 use borrow.Author.Needs.{needs}
 use Rattle.engine.proofs.show.Statement.{statement}
 use Rattle.engine.proofs.show.Tie as tie

@@ -2,7 +2,7 @@
 -- Assumes nothing.
 use mathlib.Core.Path.{_∙_, sym}
 use Rattle.entries.proofs.Checking.{check-ready}
-use Rattle.engine.proofs.Showing.{show-refused}
+use Rattle.inner.proofs.Showing.{show-refused}
 use borrow.Author.Needs.{needs}
 use Rattle.engine.proofs.show_place.Statement.{statement}
 use Rattle.engine.proofs.show_place.Tie as tie

@@ -2,7 +2,7 @@
 -- Assumes nothing.
 use mathlib.Core.Path.{_∙_, sym}
 use Rattle.entries.proofs.Checking.{check-ready}
-use Rattle.engine.proofs.Showing.{status-refused}
+use Rattle.inner.proofs.Showing.{status-refused}
 use borrow.Author.Needs.{needs}
 use Rattle.engine.proofs.status.Statement.{statement}
 use Rattle.engine.proofs.status.Tie as tie

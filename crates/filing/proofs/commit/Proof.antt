@@ -3,14 +3,24 @@
 use native.Mathlib.Omega.{arith}
 use borrow.Author.Needs.{needs}
 use Rattle.filing.proofs.Answers.{commit-done, commit-no-room, commit-none, commit-nothing, commit-stale, left-committed, may-commit, may-settle, next-is, next-small, seat-small}
+use Rattle.filing.proofs.Keeping.{filed-done, filed-refused}
+use Rattle.model.specs.declared.Refusal.the-variants.{NoRoom, NothingPending, OutOfDate, Range}
 use Rattle.filing.proofs.commit.Statement.{statement}
 use Rattle.filing.proofs.commit.Tie as tie
 
+unfiled-requires : tie.Need-unfiled-requires
+unfiled-requires c κs = search needs
+
 returns : tie.Need-returns
-returns c = let a = c .before .before .before .args in commit-none (a .store .now) (a .copy .now) (a .stamp) (a .mask) (c .if1 .taken)
+returns c =
+    let a = c .before .before .before .before .args in
+    filed-refused (a .store .now) (a .copy .now) (a .v) (c .before .before .before .before .pre) (a .stamp) (a .mask) Range (c .unfiled .ensures) (commit-none (a .store .now) (a .copy .now) (a .stamp) (a .mask) (c .before .if1 .taken))
 
 any-stale-requires : tie.Need-any-stale-requires
 any-stale-requires c κs = search needs
+
+unfiled-requires-2 : tie.Need-unfiled-requires-2
+unfiled-requires-2 c κs = search needs
 
 same-length : tie.Need-same-length
 same-length c = search needs
@@ -20,17 +30,18 @@ same-length-2 c = search needs
 
 returns-2 : tie.Need-returns-2
 returns-2 c =
-    let a = c .before .before .before .before .before .before .before .args in
-    commit-stale (a .store .now) (a .copy .now) (a .stamp) (a .mask) (c .before .before .before .before .if1 .left) (c .before .any-stale .ensures) (c .if2 .taken)
+    let a = c .before .before .before .before .before .before .before .before .args in
+    filed-refused (a .store .now) (a .copy .now) (a .v) (c .before .before .before .before .before .before .before .before .pre) (a .stamp) (a .mask) OutOfDate (c .unfiled2 .ensures)
+    (commit-stale (a .store .now) (a .copy .now) (a .stamp) (a .mask) (c .before .before .before .before .before .if1 .left) (c .before .before .any-stale .ensures) (c .before .if2 .taken))
 
 note-flags-requires : tie.Need-note-flags-requires
 note-flags-requires c κs = search needs
 
 add-next : tie.Need-add-next
-add-next c = let k = c .before .before .before .before .before .before .before .before .before .before .before .before in let a = k .args in omega (arith, next-small (a .store .now) (a .copy .now) (a .v) (k .pre))
+add-next c = let a = c .before .before .before .before .before .before .before .before .before .before .before .before .args in omega (arith, next-small (a .store .now) (a .copy .now) (a .v) (c .before .before .before .before .before .before .before .before .before .before .before .before .pre))
 
 cast-seat : tie.Need-cast-seat
-cast-seat c = let k = c .before .before .before .before .before .before .before .before .before .before .before .before .before in let a = k .args in omega (arith, seat-small (a .store .now) (a .copy .now) (a .v) (k .pre))
+cast-seat c = let a = c .before .before .before .before .before .before .before .before .before .before .before .before .before .args in omega (arith, seat-small (a .store .now) (a .copy .now) (a .v) (c .before .before .before .before .before .before .before .before .before .before .before .before .before .pre))
 
 slice-aggregate-commit-chosen : tie.Need-slice-aggregate-commit-chosen
 slice-aggregate-commit-chosen c = search needs
@@ -39,25 +50,31 @@ slice-aggregate-commit-chosen-2 : tie.Need-slice-aggregate-commit-chosen-2
 slice-aggregate-commit-chosen-2 c = search needs
 
 commit-chosen-requires : tie.Need-commit-chosen-requires
-commit-chosen-requires c κs = let k = c .before .before .before .before .before .before .before .before .before .before .before .before .before .before .before .before .before in let a = k .args in may-commit (a .store .now) (a .copy .now) (a .v) (k .pre) (c .before .before .before .before .before .before .before .note-flags .ensures)
+commit-chosen-requires c κs = let a = c .before .before .before .before .before .before .before .before .before .before .before .before .before .before .before .before .before .args in may-commit (a .store .now) (a .copy .now) (a .v) (c .before .before .before .before .before .before .before .before .before .before .before .before .before .before .before .before .before .pre) (c .before .before .before .before .before .before .before .note-flags .ensures)
 
 enum-told : tie.Need-enum-told
 enum-told c = search needs
 
+unfiled-requires-3 : tie.Need-unfiled-requires-3
+unfiled-requires-3 c κs = search needs
+
 enum-told-2 : tie.Need-enum-told-2
 enum-told-2 c = search needs
 
-enum-told-3 : tie.Need-enum-told-3
-enum-told-3 c = search needs
+unfiled-requires-4 : tie.Need-unfiled-requires-4
+unfiled-requires-4 c κs = search needs
+
+enum-known-o : tie.Need-enum-known-o
+enum-known-o c = search needs
 
 cast-revision : tie.Need-cast-revision
-cast-revision c = let k = c .before .before .before .before .before .before .before .before .before .before .before .before .before .before .before .before .before .before .before .before .before .before in let a = k .args in omega (arith, next-small (a .store .now) (a .copy .now) (a .v) (k .pre))
+cast-revision c = let a = c .before .before .before .before .before .before .before .before .before .before .before .before .before .before .before .before .before .before .before .before .before .before .before .args in omega (arith, next-small (a .store .now) (a .copy .now) (a .v) (c .before .before .before .before .before .before .before .before .before .before .before .before .before .before .before .before .before .before .before .before .before .before .before .pre))
 
 slice-aggregate-settle : tie.Need-slice-aggregate-settle
 slice-aggregate-settle c = search needs
 
 settle-requires : tie.Need-settle-requires
-settle-requires c κs = let k = c .before .before .before .before .before .before .before .before .before .before .before .before .before .before .before .before .before .before .before .before .before .before .before .before in let a = k .args in (may-settle (a .store .now) (a .copy .now) (a .v) (k .pre), c .before .before .before .before .before .before .before .before .before .before .before .before .before .before .note-flags .ensures .flags)
+settle-requires c κs = let a = c .before .before .before .before .before .before .before .before .before .before .before .before .before .before .before .before .before .before .before .before .before .before .before .before .before .args in (may-settle (a .store .now) (a .copy .now) (a .v) (c .before .before .before .before .before .before .before .before .before .before .before .before .before .before .before .before .before .before .before .before .before .before .before .before .before .pre), c .before .before .before .before .before .before .before .before .before .before .before .before .before .before .before .note-flags .ensures .flags)
 
 same-length-3 : tie.Need-same-length-3
 same-length-3 c = search needs
@@ -67,8 +84,9 @@ same-length-4 c = search needs
 
 returns-3 : tie.Need-returns-3
 returns-3 c =
-    let a = c .before .before .before .before .before .before .before .before .before .before .before .before .before .before .before .before .before .before .before .before .before .before .args in
-    commit-nothing (a .store .now) (a .copy .now) (a .stamp) (a .mask) (c .before .before .before .before .before .before .before .before .before .before .before .before .before .before .before .before .before .before .before .if1 .left) (c .enum-told .given .1) (c .before .before .before .before .commit-chosen .ensures)
+    let a = c .before .before .before .before .before .before .before .before .before .before .before .before .before .before .before .before .before .before .before .before .before .before .before .args in
+    filed-refused (a .store .now) (a .copy .now) (a .v) (c .before .before .before .before .before .before .before .before .before .before .before .before .before .before .before .before .before .before .before .before .before .before .before .pre) (a .stamp) (a .mask) NothingPending (c .unfiled3 .ensures)
+    (commit-nothing (a .store .now) (a .copy .now) (a .stamp) (a .mask) (c .before .before .before .before .before .before .before .before .before .before .before .before .before .before .before .before .before .before .before .before .if1 .left) (c .before .enum-told .given .1) (c .before .before .before .before .before .commit-chosen .ensures))
 
 same-length-5 : tie.Need-same-length-5
 same-length-5 c = search needs
@@ -78,8 +96,9 @@ same-length-6 c = search needs
 
 returns-4 : tie.Need-returns-4
 returns-4 c =
-    let a = c .before .before .before .before .before .before .before .before .before .before .before .before .before .before .before .before .before .before .before .before .before .before .args in
-    commit-no-room (a .store .now) (a .copy .now) (a .stamp) (a .mask) (c .before .before .before .before .before .before .before .before .before .before .before .before .before .before .before .before .before .before .before .if1 .left) (c .before .before .before .before .before .before .before .before .before .before .before .before .before .before .before .before .any-stale .ensures) (c .before .before .before .before .before .before .before .before .before .before .before .before .before .before .before .if2 .left) (c .before .before .before .before .commit-chosen .ensures) (c .enum-told2 .given .1)
+    let a = c .before .before .before .before .before .before .before .before .before .before .before .before .before .before .before .before .before .before .before .before .before .before .before .args in
+    filed-refused (a .store .now) (a .copy .now) (a .v) (c .before .before .before .before .before .before .before .before .before .before .before .before .before .before .before .before .before .before .before .before .before .before .before .pre) (a .stamp) (a .mask) NoRoom (c .unfiled4 .ensures)
+    (commit-no-room (a .store .now) (a .copy .now) (a .stamp) (a .mask) (c .before .before .before .before .before .before .before .before .before .before .before .before .before .before .before .before .before .before .before .before .if1 .left) (c .before .before .before .before .before .before .before .before .before .before .before .before .before .before .before .before .before .any-stale .ensures) (c .before .before .before .before .before .before .before .before .before .before .before .before .before .before .before .before .if2 .left) (c .before .before .before .before .before .commit-chosen .ensures) (c .before .enum-told2 .given .1))
 
 same-length-7 : tie.Need-same-length-7
 same-length-7 c = search needs
@@ -89,17 +108,20 @@ same-length-8 c = search needs
 
 returns-5 : tie.Need-returns-5
 returns-5 c =
-    let k = c .before .before .before .before .before .before .before .before .before .before .before .before .before .before .before .before .before .before .before .before .before .before .before .before .before .before .before in
-    let a = k .args in
-    commit-done (a .store .now) (a .copy .now) (a .stamp) (a .mask) (c .before .before .before .before .before .before .before .before .before .before .before .before .before .before .before .before .before .before .before .before .before .before .before .before .if1 .left) (c .before .before .before .before .before .before .before .before .before .before .before .before .before .before .before .before .before .before .before .before .before .any-stale .ensures) (c .before .before .before .before .before .before .before .before .before .before .before .before .before .before .before .before .before .before .before .before .if2 .left) (c .before .before .before .before .before .before .before .before .before .commit-chosen .ensures) (c .before .before .before .before .before .enum-told3 .given .1)
-    (next-is (a .store .now) (a .copy .now) (a .v) (k .pre)) (left-committed (a .store .now) (a .copy .now) (a .v) (k .pre) (c .before .before .before .before .before .before .before .before .before .before .before .before .before .before .before .before .before .note-flags .ensures) (c .before .before .settle .ensures))
+    let a = c .before .before .before .before .before .before .before .before .before .before .before .before .before .before .before .before .before .before .before .before .before .before .before .before .before .before .before .before .args in
+    let P = c .before .before .before .before .before .before .before .before .before .before .before .before .before .before .before .before .before .before .before .before .before .before .before .before .before .before .before .before .pre in
+    filed-done (a .store .now) (a .copy .now) (a .v) P (a .stamp) (a .mask) (omega (arith, c .before .before .before .before .before .before .before .before .before .before .before .before .before .before .before .before .before .before .before .before .before .before .before .before .before .before .before .before .fits .stamp)) (c .before .before .before .before .before .before .before .before .before .before .commit-chosen .ensures) (c .before .before .before .before .before .before .o .given .1)
+    (commit-done (a .store .now) (a .copy .now) (a .stamp) (a .mask) (c .before .before .before .before .before .before .before .before .before .before .before .before .before .before .before .before .before .before .before .before .before .before .before .before .before .if1 .left) (c .before .before .before .before .before .before .before .before .before .before .before .before .before .before .before .before .before .before .before .before .before .before .any-stale .ensures) (c .before .before .before .before .before .before .before .before .before .before .before .before .before .before .before .before .before .before .before .before .before .if2 .left) (c .before .before .before .before .before .before .before .before .before .before .commit-chosen .ensures) (c .before .before .before .before .before .before .o .given .1)
+    (next-is (a .store .now) (a .copy .now) (a .v) P) (left-committed (a .store .now) (a .copy .now) (a .v) P (c .before .before .before .before .before .before .before .before .before .before .before .before .before .before .before .before .before .before .note-flags .ensures) (c .before .before .settle .ensures)))
 
 pub commit-spec : {M : Type 1} → statement M
 commit-spec =
     tie.close
     (tie.spec
+    unfiled-requires
     returns
     any-stale-requires
+    unfiled-requires-2
     same-length
     same-length-2
     returns-2
@@ -110,8 +132,10 @@ commit-spec =
     slice-aggregate-commit-chosen-2
     commit-chosen-requires
     enum-told
+    unfiled-requires-3
     enum-told-2
-    enum-told-3
+    unfiled-requires-4
+    enum-known-o
     cast-revision
     slice-aggregate-settle
     settle-requires

@@ -21,8 +21,8 @@ use Rattle.model.specs.declared.Span.{Span}
 use Rattle.model.specs.declared.State.{State}
 use Rattle.model.specs.declared.State.the-variants.{Added, Copied, Deleted, Empty, Normal}
 use Rattle.laws.proofs.Conditions.{clear, clear-first}
-use Rattle.engine.proofs.Changing.{check-refusal}
-use Rattle.engine.specs.Place.{hasOwn}
+use Rattle.inner.proofs.Changing.{check-refusal}
+use Rattle.inner.specs.Place.{hasOwn}
 use Rattle.entries.proofs.Checking.{fitting-accepted}
 use Rattle.entries.specs.View.{Fitting, checkOf, entryIn}
 use Rattle.entries.specs.declared.Checked.the-variants.{Refused}

@@ -1,12 +1,12 @@
--- `engine::log_in` meets its contract: one way through the tests at a time.
+-- `inner::log_in` meets its contract: one way through the tests at a time.
 -- Assumes nothing.
 use mathlib.Core.Path.{_∙_, sym}
 use native.Mathlib.Omega.{arith}
 use borrow.Author.Needs.{needs}
-use Rattle.engine.proofs.Looking.{in-range, log-beyond, log-there, log-zero}
-use Rattle.engine.proofs.log_in.Statement.{statement}
+use Rattle.inner.proofs.Looking.{in-range, log-beyond, log-there, log-zero}
+use Rattle.inner.proofs.log_in.Statement.{statement}
 use Rattle.search.proofs.Finding.{open-asked}
-use Rattle.engine.proofs.log_in.Tie as tie
+use Rattle.inner.proofs.log_in.Tie as tie
 
 returns : tie.Need-returns
 returns c =

@@ -18,7 +18,7 @@ use Rattle.model.specs.declared.Place.the-variants.{InStore}
 use Rattle.model.specs.declared.Refusal.{Refusal}
 use Rattle.model.specs.declared.Span.{Span}
 use Rattle.laws.proofs.Rows.{or-false}
-use Rattle.engine.proofs.Refusing.{store-open, store-refused}
+use Rattle.inner.proofs.Refusing.{store-open, store-refused}
 use Rattle.search.proofs.Finding.{block-holds, block-lacks, open-asked}
 use Rattle.search.specs.Find.{spanOf}
 use Rattle.store.proofs.Opening.{open-accepted, open-refused}

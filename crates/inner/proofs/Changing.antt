@@ -12,9 +12,9 @@ use Rattle.model.specs.Types.{answerOf, numberOf}
 use Rattle.model.specs.declared.Answer.{Answer}
 use Rattle.model.specs.declared.Refusal.{Refusal}
 use Rattle.laws.proofs.Conditions.{clear}
-use Rattle.engine.proofs.Refusing.{first-stays}
+use Rattle.inner.proofs.Refusing.{first-stays}
 use Rattle.entries.proofs.Checking.{check-ready, check-refused, fitting-accepted, inner-call}
-use Rattle.entries.specs.View.{checkOf, innerOut}
+use Rattle.entries.specs.View.{Fitting, checkOf, innerOut}
 use Rattle.entries.specs.declared.Checked.the-variants.{Ready, Refused}
 use Rattle.entries.specs.declared.View.{View}
 use Rattle.local.proofs.Calls.{Local, local-call}
@@ -31,12 +31,16 @@ module _ (store copy : Bytes) where
   unfolding changeCall
   refused-call k c e = sym (ap (λ (o : Option ℕ). changeBy o store copy c) (check-refusal k c e))
 
-  pub local-done : (v : View) (c : Call) (a : Answer) (copy′ : Bytes) → checkOf store copy ≡ Ready v → Local c → record { says = answerOf a; copy = copy′ } ≡ localOut copy c
+  pub local-fits : (v : View) → Fitting store copy v → (c : Call) (a : Answer) (copy′ : Bytes) → Local c → record { says = answerOf a; copy = copy′ } ≡ localOut copy c
       → out (answerOf a) store copy′ ≡ changeCall store copy c
-  local-done v c a copy′ e l q =
-      let A = fitting-accepted store copy v (check-ready store copy v e) in
+  local-fits v F c a copy′ l q =
+      let A = fitting-accepted store copy v F in
       ap (λ (o : LocalOut). out (o .says) store (o .copy)) q
       ∙ sym (local-call store copy c l (clear (storeConditions store) (A .storeTaken)) (clear (copyConditions store copy) (A .copyTaken)))
+
+  pub local-done : (v : View) (c : Call) (a : Answer) (copy′ : Bytes) → checkOf store copy ≡ Ready v → Local c → record { says = answerOf a; copy = copy′ } ≡ localOut copy c
+      → out (answerOf a) store copy′ ≡ changeCall store copy c
+  local-done v c a copy′ e l q = local-fits v (check-ready store copy v e) c a copy′ l q
 
   -- where no line from 1 to 6 holds, the call is the inner call
   pub inner-done : (v : View) (c : Call) {o : Out} → checkOf store copy ≡ Ready v → o ≡ innerOut store copy c → o ≡ changeCall store copy c

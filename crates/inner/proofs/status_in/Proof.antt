@@ -1,9 +1,9 @@
--- `engine::status_in` meets its contract: one way through at a time.
+-- `inner::status_in` meets its contract: one way through at a time.
 -- Assumes nothing.
-use Rattle.engine.proofs.Showing.{status-beyond, status-there}
+use Rattle.inner.proofs.Showing.{status-beyond, status-there}
 use borrow.Author.Needs.{needs}
-use Rattle.engine.proofs.status_in.Statement.{statement}
-use Rattle.engine.proofs.status_in.Tie as tie
+use Rattle.inner.proofs.status_in.Statement.{statement}
+use Rattle.inner.proofs.status_in.Tie as tie
 
 returns : tie.Need-returns
 returns c =

@@ -1,14 +1,14 @@
--- `engine::place_in` meets its contract: one way through the tests at a time.
+-- `inner::place_in` meets its contract: one way through the tests at a time.
 -- Assumes nothing.
 use mathlib.Core.Path.{_∙_, ap, sym}
 use native.Mathlib.Omega.{arith}
 use borrow.Author.Needs.{needs}
 use Rattle.model.specs.Store.{blockCount}
-use Rattle.engine.proofs.Looking.{in-range, read-beyond, read-lacking, read-there}
-use Rattle.engine.proofs.place_in.Statement.{statement}
+use Rattle.inner.proofs.Looking.{in-range, read-beyond, read-lacking, read-there}
+use Rattle.inner.proofs.place_in.Statement.{statement}
 use Rattle.search.proofs.Finding.{block-inside, open-asked}
 use Rattle.search.specs.declared.Found.{Found}
-use Rattle.engine.proofs.place_in.Tie as tie
+use Rattle.inner.proofs.place_in.Tie as tie
 
 beyond-requires : tie.Need-beyond-requires
 beyond-requires c κs = search needs

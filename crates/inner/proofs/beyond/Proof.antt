@@ -1,9 +1,9 @@
--- `engine::beyond` meets its contract: one way through the tests at a time.
+-- `inner::beyond` meets its contract: one way through the tests at a time.
 -- Assumes nothing.
 use lib.Dec.{ltb}
-use Rattle.engine.proofs.Looking.{beyond-last, beyond-sheet}
-use Rattle.engine.proofs.beyond.Statement.{statement}
-use Rattle.engine.proofs.beyond.Tie as tie
+use Rattle.inner.proofs.Looking.{beyond-last, beyond-sheet}
+use Rattle.inner.proofs.beyond.Statement.{statement}
+use Rattle.inner.proofs.beyond.Tie as tie
 
 returns : tie.Need-returns
 returns c =

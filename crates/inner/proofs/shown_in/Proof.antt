@@ -1,4 +1,4 @@
--- `engine::shown_in` meets its contract: one way through at a time.
+-- `inner::shown_in` meets its contract: one way through at a time.
 -- Assumes nothing.
 use Prim.Native.Nat.{_*_, _+_}
 use mathlib.Core.Path.{_∙_, ap, sym}
@@ -7,10 +7,10 @@ use Rattle.block.specs.Buffer.{blockAt}
 use Rattle.model.specs.Calls.{inCopy}
 use Rattle.model.specs.Entry.{ownBytes}
 use Rattle.workcopy.specs.Copy.{bytesIn}
-use Rattle.engine.proofs.Showing.{newest-block, newest-inside, own-none, own-some, show-beyond, show-lacking, show-own, show-there}
+use Rattle.inner.proofs.Showing.{newest-block, newest-inside, own-none, own-some, show-beyond, show-lacking, show-own, show-there}
 use borrow.Author.Needs.{needs}
-use Rattle.engine.proofs.shown_in.Statement.{statement}
-use Rattle.engine.proofs.shown_in.Tie as tie
+use Rattle.inner.proofs.shown_in.Statement.{statement}
+use Rattle.inner.proofs.shown_in.Tie as tie
 
 returns : tie.Need-returns
 returns c =

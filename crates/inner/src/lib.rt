@@ -1,0 +1,199 @@
+// The inner calls: on a store known to be accepted and, where they take one, a working copy known to fit it. Nothing is checked again.
+ghost use mathlib.Core.Bool.{_||_};
+ghost use mathlib.Core.List.{[]};
+ghost use mathlib.Core.Path.{_≡_};
+ghost use lib.Dec.{ltb};
+ghost use Rattle.entries.specs.View.{Fitting};
+ghost use Rattle.inner.specs.Performs.{Performs, callOf, stayAs};
+ghost use Rattle.inner.specs.Place.{Located, hasOwn};
+ghost use Rattle.model.specs.Calls.{logCall, readPlace, showPlace, statusCall};
+ghost use Rattle.model.specs.Refusals.{noSheet};
+ghost use Rattle.model.specs.Types.{answerOf};
+ghost use Rattle.store.specs.Opened.{openOf};
+ghost use Rattle.store.specs.declared.Opened.the-variants.{Open};
+use entries::View;
+use model::Answer;
+use model::Place;
+use model::Refusal;
+use model::Span;
+use model::State;
+use store::Header;
+
+// A call with its numbers: the sheet (add and edit take bytes beside it), from and to, stamp and mask, mask and revision, revision and sheet.
+pub enum Call {
+    Add(u32),
+    Edit(u32),
+    Delete(u32),
+    Copy(u32, u32),
+    Move(u32, u32),
+    Commit(u32, u32),
+    Update(u32, u32),
+    Revert(u32),
+    Read(u32, u32),
+    Show(u32),
+    Status(u32),
+    Log(u32, u32),
+}
+
+// What a call answers; read and show, where the bytes stand.
+pub enum Reply {
+    Said(Answer),
+    At(Place),
+}
+
+// ---- looking
+
+// Line 7 of read and log: a sheet number above 31, or a revision above the last.
+fn beyond(h: Header, revision: u32, sheet: u32) -> bool
+    ensures { λ r. ⌜ r ≡ (noSheet sheet || ltb (h .last) revision) ⌝ }
+{
+    if 31 < sheet {
+        return true;
+    }
+    h.last < revision as usize
+}
+
+// The companion of read, on a store that is open.
+pub fn place_in(store: &[u8], h: Header, revision: u32, sheet: u32) -> Place
+    requires { ⌜ openOf (now store) ≡ Open h ⌝ }
+    ensures { λ r. ⌜ Located (now (store .entry)) [] (readPlace (now (store .entry)) revision sheet) r ⌝ }
+{
+    if beyond(h, revision, sheet) {
+        return Place::Refused(Refusal::Range);
+    }
+    let n = store.len() / 512;
+    let found = search::look_up(store, n, h.used, revision as usize, sheet as usize);
+    if found.block == 0 {
+        return Place::Refused(Refusal::Missing);
+    }
+    Place::InStore(search::span_at(store, found.block))
+}
+
+// Log on a store that is open.
+pub fn log_in(store: &[u8], h: Header, revision: u32, sheet: u32) -> Answer
+    requires { ⌜ openOf (now store) ≡ Open h ⌝ }
+    ensures { λ r. ⌜ answerOf r ≡ logCall (now (store .entry)) revision sheet ⌝ }
+{
+    if revision == 0 {
+        return Answer::Refused(Refusal::Range);
+    }
+    if beyond(h, revision, sheet) {
+        return Answer::Refused(Refusal::Range);
+    }
+    let n = store.len() / 512;
+    Answer::Logged(search::log_at(store, n, h.used, revision as usize, sheet as usize))
+}
+
+// Whether an entry in this state has bytes of its own.
+fn own_bytes(s: State) -> bool
+    ensures { λ r. ⌜ r ≡ hasOwn s ⌝ }
+{
+    match s {
+        State::Empty => false,
+        State::Normal(_) => true,
+        State::Added => true,
+        State::Deleted(_) => false,
+        State::Copied(_) => true,
+    }
+}
+
+// The companion of show, on a store and a working copy that fits it.
+pub fn shown_in<'a>(store: &'a [u8], copy: &'a [u8], v: View, sheet: u32) -> Place
+    requires { ⌜ Fitting (now store) (now copy) v ⌝ }
+    ensures { λ r. ⌜ Located (now (store .entry)) (now (copy .entry)) (showPlace (now (store .entry)) (now (copy .entry)) sheet) r ⌝ }
+{
+    if 31 < sheet {
+        return Place::Refused(Refusal::Range);
+    }
+    let i = sheet as usize;
+    let e = workcopy::entry_at(copy, i);
+    let state = e.state;
+    if own_bytes(state) {
+        let start = 512 * (1 + i) + 16;
+        let len = e.len;
+        return Place::InCopy(Span { start, len });
+    }
+    let found = search::look_up(store, v.n, v.used, v.last, i);
+    if found.block == 0 {
+        return Place::Refused(Refusal::Missing);
+    }
+    Place::InStore(search::span_at(store, found.block))
+}
+
+// The status of an entry, on a store and a working copy that fits it.
+pub fn status_in<'a>(store: &'a [u8], copy: &'a [u8], v: View, sheet: u32) -> Answer
+    requires { ⌜ Fitting (now store) (now copy) v ⌝ }
+    ensures { λ r. ⌜ answerOf r ≡ statusCall (now (store .entry)) (now (copy .entry)) sheet ⌝ }
+{
+    if 31 < sheet {
+        return Answer::Refused(Refusal::Range);
+    }
+    Answer::Status(entries::status_at(store, copy, v, sheet as usize))
+}
+
+// ---- any call
+
+// What a call answered, and the store's blocks in use and last revision then.
+pub struct Performed {
+    pub reply: Reply,
+    pub used: usize,
+    pub last: usize,
+}
+
+// The store's numbers stay.
+fn stay(v: View, reply: Reply) -> Performed
+    ensures { λ r. ⌜ r ≡ stayAs v reply ⌝ }
+{
+    Performed {
+        reply,
+        used: v.used,
+        last: v.last,
+    }
+}
+
+// The call is done or refused, and both buffers fit again.
+pub fn perform(store: &mut [u8], copy: &mut [u8], v: View, call: Call, bytes: &[u8]) -> Performed
+    requires { ⌜ Fitting (now store) (now copy) v ⌝ }
+    ensures { λ r. ⌜ Performs (now (store .entry)) (now (copy .entry)) v (callOf call (now (bytes .entry))) r (now (store .exit)) (now (copy .exit)) ⌝ }
+{
+    match call {
+        Call::Add(sheet) => stay(v, Reply::Said(local::add(copy, sheet, bytes))),
+        Call::Edit(sheet) => stay(v, Reply::Said(local::edit(copy, sheet, bytes))),
+        Call::Delete(sheet) => stay(v, Reply::Said(local::delete(copy, sheet))),
+        Call::Copy(from, to) => stay(v, Reply::Said(local::copy_sheet(copy, from, to))),
+        Call::Move(from, to) => stay(v, Reply::Said(local::move_sheet(copy, from, to))),
+        Call::Commit(stamp, mask) => {
+            let filed = filing::commit(store, copy, v, stamp, mask);
+            let answer = filed.answer;
+            let reply = Reply::Said(answer);
+            Performed {
+                reply,
+                used: filed.used,
+                last: filed.last,
+            }
+        }
+        Call::Update(mask, revision) => {
+            stay(
+                v,
+                Reply::Said(updates::update(store, copy, v, mask, revision)),
+            )
+        }
+        Call::Revert(mask) => stay(v, Reply::Said(updates::revert(store, copy, v, mask))),
+        Call::Read(revision, sheet) => {
+            let h = Header {
+                last: v.last,
+                used: v.used,
+            };
+            stay(v, Reply::At(place_in(store, h, revision, sheet)))
+        }
+        Call::Show(sheet) => stay(v, Reply::At(shown_in(store, copy, v, sheet))),
+        Call::Status(sheet) => stay(v, Reply::Said(status_in(store, copy, v, sheet))),
+        Call::Log(revision, sheet) => {
+            let h = Header {
+                last: v.last,
+                used: v.used,
+            };
+            stay(v, Reply::Said(log_in(store, h, revision, sheet)))
+        }
+    }
+}
