@@ -1,6 +1,7 @@
 // The entries of a working copy held against an accepted store: whether the copy fits, and what each entry is. Inner functions but for `check`, which takes any two buffers.
 use model::Refusal;
 use model::State;
+use store::Header;
 ghost use Prim.Native.Nat.{_<_, _≤_};
 ghost use mathlib.Core.Bool.{not};
 ghost use mathlib.Core.Path.{_≡_};
@@ -13,6 +14,8 @@ ghost use Rattle.model.specs.Machine.{sameNamer, statusOf};
 ghost use Rattle.model.specs.Refusals.{outOfDate};
 ghost use Rattle.model.specs.Store.{storeHistory};
 ghost use Rattle.model.specs.WorkCopy.{entriesOf};
+ghost use Rattle.store.specs.Opened.{openOf};
+ghost use Rattle.store.specs.declared.Opened.the-variants.{Open};
 ghost use Rattle.entries.specs.View.{Fitting, Opened, UpdateIs, Viewed, bytesOf, checkOf, entryIn, normalStatus, takenAs};
 
 // What is known of two buffers that are accepted: the store's blocks, its used blocks and last revision, and the copy's seat.
@@ -74,33 +77,38 @@ pub enum Checked {
     Ready(View),
 }
 
+// Refusals 4 to 6 in the document's order, or what is known of the two buffers, where the store is open.
+pub fn check_copy<'a>(store: &'a [u8], copy: &'a [u8], h: Header) -> Checked
+    requires { ⌜ openOf (now store) ≡ Open h ⌝ }
+    ensures { λ x. ⌜ x ≡ checkOf (now (store .entry)) (now (copy .entry)) ⌝ }
+{
+    let a = workcopy::accept(copy);
+    match a {
+        workcopy::Acceptance::Refused(k) => Checked::Refused(k),
+        workcopy::Acceptance::Seat(seat) => {
+            let v = View {
+                n: store.len() / 512,
+                used: h.used,
+                last: h.last,
+                seat,
+            };
+            if fits(store, copy, v) {
+                Checked::Ready(v)
+            } else {
+                Checked::Refused(Refusal::Unfit)
+            }
+        }
+    }
+}
+
 // Refusals 1 to 6 in the document's order, or what is known of the two buffers.
 pub fn check<'a>(store: &'a [u8], copy: &'a [u8]) -> Checked
     ensures { λ x. ⌜ x ≡ checkOf (now (store .entry)) (now (copy .entry)) ⌝ }
 {
-    let n = store.len() / 512;
     let o = store::open(store);
     match o {
         store::Opened::Refused(k) => Checked::Refused(k),
-        store::Opened::Open(h) => {
-            let a = workcopy::accept(copy);
-            match a {
-                workcopy::Acceptance::Refused(k) => Checked::Refused(k),
-                workcopy::Acceptance::Seat(seat) => {
-                    let v = View {
-                        n,
-                        used: h.used,
-                        last: h.last,
-                        seat,
-                    };
-                    if fits(store, copy, v) {
-                        Checked::Ready(v)
-                    } else {
-                        Checked::Refused(Refusal::Unfit)
-                    }
-                }
-            }
-        }
+        store::Opened::Open(h) => check_copy(store, copy, h),
     }
 }
 

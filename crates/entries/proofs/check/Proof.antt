@@ -1,8 +1,8 @@
--- `entries::check` meets its contract: the store's refusals, the copy's, and then whether it fits.
+-- `entries::check` meets its contract: the store's refusals, and then the copy's.
 -- Assumes nothing.
 use mathlib.Core.Path.{_∙_, sym}
 use borrow.Author.Needs.{needs}
-use Rattle.entries.proofs.Checking.{both-ready, both-unfit, both-viewed, copy-refused, store-refused}
+use Rattle.entries.proofs.Checking.{store-refused}
 use Rattle.entries.proofs.check.Statement.{statement}
 use Rattle.entries.proofs.check.Tie as tie
 
@@ -15,39 +15,14 @@ enum-known-o c = search needs
 enum-known-o-2 : tie.Need-enum-known-o-2
 enum-known-o-2 c = search needs
 
-accept-requires : tie.Need-accept-requires
-accept-requires c κs = search needs
-
-enum-known-a : tie.Need-enum-known-a
-enum-known-a c = search needs
-
-enum-known-a-2 : tie.Need-enum-known-a-2
-enum-known-a-2 c = search needs
-
-fits-requires : tie.Need-fits-requires
-fits-requires c κs =
-    let a = c .before .before .before .before .before .before .before .before .before .before .args in
-    both-viewed (a .store .now) (a .copy .now) (sym (c .before .before .before .before .before .before .before .«open» .ensures) ∙ c .before .before .before .before .before .o2 .given .1) (sym (c .before .before .before .accept .ensures) ∙ c .before .a2 .given .1)
+check-copy-requires : tie.Need-check-copy-requires
+check-copy-requires c κs = sym (c .before .before .before .«open» .ensures) ∙ c .before .o2 .given .1
 
 returns : tie.Need-returns
-returns c = let a = c .before .before .before .before .before .before .args in store-refused (a .store .now) (a .copy .now) (sym (c .before .before .before .«open» .ensures) ∙ c .before .o .given .1)
+returns c = store-refused (c .before .before .before .before .before .before .args .store .now) (c .before .before .before .before .before .before .args .copy .now) (sym (c .before .before .before .«open» .ensures) ∙ c .before .o .given .1)
 
 returns-2 : tie.Need-returns-2
-returns-2 c =
-    let a = c .before .before .before .before .before .before .before .before .before .before .args in
-    copy-refused (a .store .now) (a .copy .now) (sym (c .before .before .before .before .before .before .before .«open» .ensures) ∙ c .before .before .before .before .before .o2 .given .1) (sym (c .before .before .before .accept .ensures) ∙ c .before .a .given .1)
-
-returns-3 : tie.Need-returns-3
-returns-3 c =
-    let a = c .before .before .before .before .before .before .before .before .before .before .before .before .args in
-    both-ready (a .store .now) (a .copy .now) (sym (c .before .before .before .before .before .before .before .before .before .«open» .ensures) ∙ c .before .before .before .before .before .before .before .o2 .given .1) (sym (c .before .before .before .before .before .accept .ensures) ∙ c .before .before .before .a2 .given .1)
-    (sym (c .before .fits2 .ensures) ∙ c .if1 .taken)
-
-returns-4 : tie.Need-returns-4
-returns-4 c =
-    let a = c .before .before .before .before .before .before .before .before .before .before .before .before .args in
-    both-unfit (a .store .now) (a .copy .now) (sym (c .before .before .before .before .before .before .before .before .before .«open» .ensures) ∙ c .before .before .before .before .before .before .before .o2 .given .1) (sym (c .before .before .before .before .before .accept .ensures) ∙ c .before .before .before .a2 .given .1)
-    (sym (c .before .fits2 .ensures) ∙ c .if1 .left)
+returns-2 c = search needs
 
 pub check-spec : {M : Type 1} → statement M
 check-spec =
@@ -56,11 +31,6 @@ check-spec =
     open-requires
     enum-known-o
     enum-known-o-2
-    accept-requires
-    enum-known-a
-    enum-known-a-2
-    fits-requires
+    check-copy-requires
     returns
-    returns-2
-    returns-3
-    returns-4)
+    returns-2)
