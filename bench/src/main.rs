@@ -35,7 +35,12 @@ fn report(title: &str, rounds: usize, mut fs: Vec<(&str, Box<dyn FnMut() + '_>)>
 }
 
 fn accept() {
-    for (kind, bytes) in [("ordinary", make::ordinary(4096)), ("most copies", make::worst(4096)), ("most compared", make::compared(4096))] {
+    for (kind, bytes) in [
+        ("ordinary", make::ordinary(4096)),
+        ("most copies", make::worst(4096)),
+        ("most compared, to the last byte", make::compared(4096, 479)),
+        ("most compared, unlike in the first byte", make::compared(4096, 0)),
+    ] {
         let opened = store::open(&bytes).expect("the maker lays out a history");
         assert_eq!(engine::read(&bytes, 0, 0).refusal, 8, "the engine accepts it too");
         println!("{kind}: {} commits, {} blocks used", opened.last, opened.used);

@@ -150,12 +150,12 @@ pub fn worst(blocks: usize) -> Vec<u8> {
     m.store
 }
 
-/// Copies with contents of their own, each compared with its source to the last byte: 31 contents a commit.
-pub fn compared(blocks: usize) -> Vec<u8> {
+/// Copies with contents of their own, each compared with its source, from which it differs in byte `differs` alone: 31 contents a commit.
+pub fn compared(blocks: usize, differs: usize) -> Vec<u8> {
     let mut m = Maker::new(blocks);
     let bytes = [0xabu8; 480];
     let mut other = bytes;
-    other[479] = 0;
+    other[differs] = 0;
     m.commit(1, 7, &[add(0, &bytes)]);
     while m.room() >= 33 {
         let copies: Vec<Change> = (1..32).map(|i| Change { sheet: i, action: 4, content: Some(&other), shared: 0, source: 0, from: 1 }).collect();

@@ -1,7 +1,7 @@
 -- Tests beside the statements that they decide: `Says b P` is "the test b passes exactly when P holds".
 -- Assumes nothing.
 use Prim.Native.Nat.{ℕ, zero, suc, _+_, _≤_, _<_}
-use mathlib.Core.Path.{_≡_, refl, sym, subst}
+use mathlib.Core.Path.{_≡_, refl, subst}
 use mathlib.Core.Bool.{Bool, true, false, not, _&&_, _||_}
 use mathlib.Core.List.{List, [], _∷_, head-eq-of-cons-eq, tail-eq-of-cons-eq, nil≢cons, cons≢nil}
 use mathlib.Core.Logic.{_⊎_, inl, inr}
@@ -123,20 +123,9 @@ says-allFrom p P s a n =
 
 pub ruleset says = (says-le, says-lt, says-eq, says-not, says-and, says-and3, says-and4, says-or, says-same)
 
--- for a loop that tests one number after the other: the answer where all passed, and where one did not
 pub is-true : (b : Bool) → T b → b ≡ true
 is-true true t = refl
 is-true false t = absurd t
-
-pub all-passed : (p : ℕ → Bool) (a n : ℕ) → ((i : ℕ) → a ≤ i → i < a + n → T (p i)) → allFrom p a n ≡ true
-all-passed p a n f = is-true (allFrom p a n) (so-allFrom p a n f)
-
-pub one-failed : (p : ℕ → Bool) (a n i : ℕ) → a ≤ i → i < a + n → p i ≡ false → allFrom p a n ≡ false
-one-failed p a n i h g e = go (allFrom p a n) refl
-  where
-    go : (b : Bool) → allFrom p a n ≡ b → allFrom p a n ≡ false
-    go true q = absurd (subst T e (allFrom-so p a n (subst T (sym q) tt) i h g))
-    go false q = q
 
 -- two tests that say the same are equal; the test itself from what it says
 pub says-alike : {a b : Bool} {P Q : Type 0} → Says a P → Says b Q → (P → Q) → (Q → P) → a ≡ b

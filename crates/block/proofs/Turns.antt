@@ -2,15 +2,24 @@
 -- Assumes nothing.
 use Prim.Native.Nat.{ℕ, suc, _+_, _%_, _≤_, _<_, min}
 use mathlib.Core.Path.{_≡_, sym, ap, ap₂, _∙_}
-use mathlib.Core.Bool.{true, false}
+use mathlib.Core.Bool.{Bool, _&&_, and-assoc, and-true}
 use mathlib.Core.List.{List}
 use native.Mathlib.Nat.{mod-add-mod, add-mod-mod}
 use native.Mathlib.Numerals.{add-one}
 use native.Mathlib.Omega.{arith}
-use borrow.Author.Tests.{eq-eqb, ne-eqb}
+use lib.Bits.{and-le-l, and-le-r, bitOr, or-add-and}
+use lib.Dec.{eqb}
 use lib.ListN.{length, getD, take, drop, length-take, drop-of-length-le}
 use lib.Seq.{drop-cons, getD-take}
 use Rattle.block.specs.Check.{sums, isZero}
+use Rattle.block.proofs.Says.{says-alike, says-and, says-eq}
+
+-- no bits in either
+pub or-zero : (a b : ℕ) → eqb (bitOr a b) 0 ≡ (eqb a 0 && eqb b 0)
+or-zero a b =
+    says-alike (says-eq (bitOr a b) 0) (says-and (says-eq a 0) (says-eq b 0))
+    (λ e. (omega (arith, or-add-and a b, and-le-r a b, e), omega (arith, or-add-and a b, and-le-l a b, e)))
+    (λ p. omega (arith, or-add-and a b, p .0, p .1))
 
 module _ (l : List ℕ) (i : ℕ) where
   -- the two sums, not reduced
@@ -29,13 +38,12 @@ module _ (l : List ℕ) (i : ℕ) where
   pub sums-done : (n a b : ℕ) → min n (length l) ≤ i → sums a b (drop i (take n l)) ≡ (a, b)
   sums-done n a b h = rw (drop-of-length-le (take n l) {i = i} (omega (arith, length-take n l)))
 
-  -- the test for zeros
-  module _ (h : i < length l) where
-    pub zero-step : getD l i 0 ≡ 0 → isZero (drop i l) ≡ isZero (drop (i + 1) l)
-    zero-step e = rw (drop-cons l i 0 h, add-one i, eq-eqb (getD l i 0) 0 e)
+  -- the test for zeros, which gathers the bits of every byte
+  pub zero-step : (any : ℕ) → i < length l → (eqb (bitOr any (getD l i 0)) 0 && isZero (drop (i + 1) l)) ≡ (eqb any 0 && isZero (drop i l))
+  zero-step any h =
+      ap (λ (b : Bool). b && isZero (drop (i + 1) l)) (or-zero any (getD l i 0))
+      ∙ and-assoc (eqb any 0) (eqb (getD l i 0) 0) (isZero (drop (i + 1) l))
+      ∙ rw (drop-cons l i 0 h, add-one i)
 
-    pub zero-not : (getD l i 0 ≡ 0 → ⊥) → isZero (drop i l) ≡ false
-    zero-not n = rw (drop-cons l i 0 h, ne-eqb (getD l i 0) 0 n)
-
-  pub zero-done : length l ≤ i → isZero (drop i l) ≡ true
-  zero-done h = rw (drop-of-length-le l {i = i} h)
+  pub zero-done : (any : ℕ) → length l ≤ i → (eqb any 0 && isZero (drop i l)) ≡ eqb any 0
+  zero-done any h = rw (drop-of-length-le l {i = i} h) (and-true (eqb any 0))

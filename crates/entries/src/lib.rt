@@ -5,7 +5,6 @@ use store::Header;
 ghost use Prim.Native.Nat.{_<_, _≤_};
 ghost use mathlib.Core.Bool.{not};
 ghost use mathlib.Core.Path.{_≡_};
-ghost use Rattle.block.specs.Lists.{same};
 ghost use Rattle.model.specs.Entry.{pending};
 ghost use Rattle.model.specs.Fitting.{fitsEntry, fitsStore};
 ghost use Rattle.model.specs.Fitting.{has as hasSheet};
@@ -112,23 +111,6 @@ pub fn check<'a>(store: &'a [u8], copy: &'a [u8]) -> Checked
     }
 }
 
-// Whether two parts hold the same bytes.
-fn same_part<'a>(a: &'a [u8], b: &'a [u8]) -> bool
-    ensures { λ x. ⌜ x ≡ same (now (a .entry)) (now (b .entry)) ⌝ }
-{
-    if a.len() != b.len() {
-        return false;
-    }
-    let mut i: usize = 0;
-    while i < a.len() {
-        if a[i] != b[i] {
-            return false;
-        }
-        i += 1;
-    }
-    true
-}
-
 // Whether the bytes of entry i are not those of sheet s at revision r.
 pub fn differs<'a>(store: &'a [u8], copy: &'a [u8], v: View, i: usize, r: usize, s: usize) -> bool
     requires { ⌜ Viewed (now store) (now copy) v × (i < 32) × (r ≤ v .last) × (s < 32) ⌝ }
@@ -144,7 +126,7 @@ pub fn differs<'a>(store: &'a [u8], copy: &'a [u8], v: View, i: usize, r: usize,
     let e = workcopy::entry_at(copy, i);
     let c = 512 * (i + 1) + 16;
     let d = c + e.len;
-    !same_part(&copy[c..d], &store[a..b])
+    !shape::same_part(&copy[c..d], &store[a..b])
 }
 
 // Whether a commit after revision b names sheet i.

@@ -111,6 +111,22 @@ pointers-each a zero ls f = refl
 pointers-each a (suc n) ls f =
     omega (arith, f a (omega arith) (omega arith), pointers-each (suc a) n ls (λ p h g. f p (omega arith) (omega arith)))
 
+hit-few : (a n b : ℕ) → hit a n b ≤ 1
+hit-few a zero b = omega arith
+hit-few a (suc n) b =
+    elim (eq-or b a) [
+      | inl e ↦ rw (eq-eqb b a e) (omega (arith, hit-out (suc a) n b (omega arith)))
+      | inr ne ↦ rw (ne-eqb b a ne) (omega (arith, hit-few (suc a) n b))
+    ]
+
+pointers-few : (a n : ℕ) (ls : List Line) → pointers a n ls ≤ length ls
+pointers-few a n [] = omega (arith, pointers-none a n)
+pointers-few a n (l ∷ ls) = omega (arith, pointers-few a n ls, pointers-cons a n l ls, hit-few a n (l .block))
+
+-- no more blocks than lines
+pub pointed-few : (a n : ℕ) (ls : List Line) → ((p : ℕ) → a ≤ p → p < a + n → pointed p ls ≡ 1) → n ≤ length ls
+pointed-few a n ls f = omega (arith, pointers-each a n ls f, pointers-few a n ls)
+
 -- ---- one commit block
 
 short-held : (b : Block) → FitsBlock b → Short (held b)

@@ -1,6 +1,6 @@
 -- The bytes that a block holds.
 -- Assumes nothing.
-use Prim.Native.Nat.{_+_, _<_, _≤_, ℕ}
+use Prim.Native.Nat.{_+_, _-_, _<_, _≤_, ℕ}
 use mathlib.Core.Bool.{Bool, _&&_, cond, false, true}
 use mathlib.Core.List.{List, []}
 use mathlib.Core.Logic.{inl, inr}
@@ -10,7 +10,7 @@ use native.Mathlib.Omega.{arith}
 use borrow.Author.Tests.{eq-eqb, ne-eqb}
 use lib.Dec.{eqb}
 use lib.ListN.{drop, drop-of-length-le, getD, length, length-drop, length-take, take}
-use lib.Seq.{drop-cons, getD-drop, getD-take}
+use lib.Seq.{drop-cons, ext-getD, getD-drop, getD-take, length-take-le}
 use Rattle.block.proofs.Says.{eq-or, says-false, says-same}
 use Rattle.block.specs.Field.{fourAt, twoAt}
 use Rattle.block.specs.Lists.{same}
@@ -45,7 +45,7 @@ module _ (l : List ℕ) (size : length l ≡ 512) where
   pub size-stated : getD l 0 0 ≡ 2 → twoAt l 2 ≤ 496 → twoAt l 2 ≡ length (held (parse l))
   size-stated e h = let d = length-drop 16 l in let t = length-take (twoAt l 2) (drop 16 l) in omega (arith, size-min e)
 
-  pub held-at : (i : ℕ) → i < length (held (parse l)) → getD (held (parse l)) i 0 ≡ getD l (16 + i) 0
+  held-at : (i : ℕ) → i < length (held (parse l)) → getD (held (parse l)) i 0 ≡ getD l (16 + i) 0
   held-at i h =
       elim (eq-or (getD l 0 0) 2) [
         | inl e ↦ (
@@ -53,6 +53,15 @@ module _ (l : List ℕ) (size : length l ≡ 512) where
             ap (λ (x : List ℕ). getD x i 0) (held-is l e) ∙ getD-take (twoAt l 2) (drop 16 l) i 0 (omega (arith, size-min e)) ∙ getD-drop 16 l i 0)
         | inr n ↦ absurd (omega (arith, size-none n))
       ]
+
+  -- the part of the block that has them
+  pub held-part : (n : ℕ) → n ≡ length (held (parse l)) → n ≤ 496 → take (16 + n - 16) (drop 16 l) ≡ held (parse l)
+  held-part n e h =
+      let w : 16 + n - 16 ≡ n = omega arith in
+      let d : length (take n (drop 16 l)) ≡ n = length-take-le n (drop 16 l) (simp length-drop (omega arith)) in
+      ap (λ (k : ℕ). take k (drop 16 l)) w
+      ∙ ext-getD 0 (take n (drop 16 l)) (held (parse l)) (d ∙ e)
+      (λ i b. getD-take n (drop 16 l) i 0 (omega arith) ∙ getD-drop 16 l i 0 ∙ sym (held-at i (omega arith)))
 
 -- two lists from place i on
 pub same-step : (a b : List ℕ) (i : ℕ) → i < length a → i < length b

@@ -7,5 +7,6 @@ pub mod Turns
 pub mod LineLaws
 pub mod Changes
 pub mod Held
+pub mod Gather
 pub mod Forward
 pub mod RowLaws

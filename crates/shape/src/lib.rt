@@ -8,25 +8,31 @@ ghost use Rattle.block.specs.Field.{twoAt};
 ghost use Rattle.block.specs.Lists.{allFrom, same};
 ghost use Rattle.model.specs.Blocks.{fieldsOf, fitsBlock, held, parse, parseLines};
 ghost use Rattle.model.specs.Codec.{shaped};
-ghost use Rattle.model.specs.Layout.{named, pointed};
+ghost use Rattle.model.specs.Layout.{pointed};
 ghost use Rattle.model.specs.Pass.{grown, noneTwice};
-ghost use Rattle.shape.specs.Lines.{left};
 ghost use Rattle.shape.specs.Rows.{Growable, rowsOf};
 ghost use Rattle.shape.specs.Shape.{kindOf, linesOk};
+
+// Whether the bytes from `from` to `to` are all v. Every byte is read, with no way out before the end, so that the compiler takes many at a time.
+fn all_are(s: &[u8], from: usize, to: usize, v: u8) -> bool
+    requires { ⌜ (from ≤ to) × (to ≤ length (now s)) ⌝ }
+    ensures { λ r. ⌜ r ≡ allFrom (λ (i : ℕ). eqb (getD (now (s .entry)) i 0) v) from (to - from) ⌝ }
+{
+    let mut off: u8 = 0;
+    let mut i = from;
+    while i < to {
+        off |= s[i] ^ v;
+        i += 1;
+    }
+    off == 0
+}
 
 // Whether the bytes from `from` to `to` are all zero.
 fn zeros(s: &[u8], from: usize, to: usize) -> bool
     requires { ⌜ (from ≤ to) × (to ≤ length (now s)) ⌝ }
     ensures { λ r. ⌜ r ≡ allFrom (λ (i : ℕ). eqb (getD (now (s .entry)) i 0) 0) from (to - from) ⌝ }
 {
-    let mut i = from;
-    while i < to {
-        if s[i] != 0 {
-            return false;
-        }
-        i += 1;
-    }
-    true
+    all_are(s, from, to, 0)
 }
 
 // The two-byte field at i.
@@ -143,67 +149,55 @@ pub fn kind(s: &[u8]) -> u8
     k
 }
 
-// How many of the m changes from byte `base` on point to block p.
-fn pointers(s: &[u8], base: usize, m: usize, p: u32) -> u32
-    requires { ⌜ (base + 8 * m ≤ length (now s)) × (m ≤ 32) ⌝ }
-    ensures { λ r. ⌜ r ≡ pointed p (parseLines m (drop base (now (s .entry)))) ⌝ }
-{
-    let mut n: u32 = 0;
-    let mut j: usize = 0;
-    while j < m {
-        if two_at(s, base + 8 * j + 2) == p {
-            n += 1;
-        }
-        j += 1;
-    }
-    n
-}
-
-// How many of the m changes from byte `base` on, without the first `from`, name the sheet i.
-fn names(s: &[u8], base: usize, m: usize, from: usize, i: u8) -> u32
-    requires { ⌜ (base + 8 * m ≤ length (now s)) × (m ≤ 32) × (from ≤ m) ⌝ }
-    ensures { λ r. ⌜ r ≡ named i (left (now (s .entry)) base m from) ⌝ }
-{
-    let mut n: u32 = 0;
-    let mut j = from;
-    while j < m {
-        if s[base + 8 * j] == i {
-            n += 1;
-        }
-        j += 1;
-    }
-    n
-}
-
-// Whether no sheet stands twice in the m changes from byte `base` on.
+// Whether no sheet stands twice in the m changes from byte `base` on. A sheet that was seen is marked.
 pub fn none_twice(s: &[u8], base: usize, m: usize) -> bool
     requires { ⌜ (base + 8 * m ≤ length (now s)) × (m ≤ 32) ⌝ }
     ensures { λ r. ⌜ r ≡ noneTwice (parseLines m (drop base (now (s .entry)))) ⌝ }
 {
+    let mut seen: [u8; 256] = [0; 256];
     let mut j: usize = 0;
     while j < m {
-        let i = s[base + 8 * j];
-        if names(s, base, m, j + 1, i) != 0 {
+        let i = s[base + 8 * j] as usize;
+        if seen[i] != 0 {
             return false;
         }
+        seen[i] = 1;
         j += 1;
     }
     true
 }
 
-// Whether each of the k blocks from block `at` on is pointed to by just one of the m changes.
+// Counts at place q, from 0, how many of the m changes from byte `base` on point to block at + q.
+fn tally(s: &[u8], base: usize, m: usize, at: usize, counts: &mut [u8])
+    requires { ⌜ (base + 8 * m ≤ length (now s)) × (m ≤ 32) × ((q : ℕ) → getD (now counts) q 0 ≡ 0) ⌝ }
+    ensures { λ x. ⌜ ((q : ℕ) → q < length (now (counts .entry)) → getD (now (counts .exit)) q 0 ≡ pointed (at + q) (parseLines m (drop base (now (s .entry))))) ⌝ }
+{
+    let mut j: usize = 0;
+    while j < m {
+        let p = two_at(s, base + 8 * j + 2) as usize;
+        j += 1;
+        if p < at {
+            continue;
+        }
+        let q = p - at;
+        if counts.len() <= q {
+            continue;
+        }
+        counts[q] += 1;
+    }
+}
+
+// Whether each of the k blocks from block `at` on is pointed to by just one of the m changes. More than 32 are not: there are at most 32 changes.
 pub fn one_each(s: &[u8], base: usize, m: usize, at: usize, k: usize) -> bool
     requires { ⌜ (base + 8 * m ≤ length (now s)) × (m ≤ 32) × (at + k ≤ 4096) ⌝ }
     ensures { λ r. ⌜ r ≡ allFrom (λ (p : ℕ). eqb (pointed p (parseLines m (drop base (now (s .entry))))) 1) at k ⌝ }
 {
-    let mut i: usize = 0;
-    while i < k {
-        if pointers(s, base, m, (at + i) as u32) != 1 {
-            return false;
-        }
-        i += 1;
+    if 32 < k {
+        return false;
     }
-    true
+    let mut counts: [u8; 32] = [0; 32];
+    tally(s, base, m, at, &mut counts);
+    all_are(&counts, 0, k, 1)
 }
 
 // How many bytes a block holds: a content block its length, any other none.
@@ -221,23 +215,30 @@ pub fn size(s: &[u8]) -> usize
     n
 }
 
+// Whether two parts hold the same bytes. Every byte is read, as in `all_are`.
+pub fn same_part<'a>(a: &'a [u8], b: &'a [u8]) -> bool
+    ensures { λ r. ⌜ r ≡ same (now (a .entry)) (now (b .entry)) ⌝ }
+{
+    if a.len() != b.len() {
+        return false;
+    }
+    let mut off: u8 = 0;
+    let mut i: usize = 0;
+    while i < a.len() {
+        off |= a[i] ^ b[i];
+        i += 1;
+    }
+    off == 0
+}
+
 // Whether two blocks hold the same bytes.
 pub fn same_held<'a>(s: &'a [u8], t: &'a [u8]) -> bool
     requires { ⌜ (length (now s) ≡ 512) × (length (now t) ≡ 512) ⌝ }
     ensures { λ r. ⌜ r ≡ same (held (parse (now (s .entry)))) (held (parse (now (t .entry)))) ⌝ }
 {
-    let n = size(s);
-    if size(t) != n {
-        return false;
-    }
-    let mut i: usize = 0;
-    while i < n {
-        if s[16 + i] != t[16 + i] {
-            return false;
-        }
-        i += 1;
-    }
-    true
+    let e = 16 + size(s);
+    let f = 16 + size(t);
+    same_part(&s[16..e], &t[16..f])
 }
 
 // The row of tree r, from the row of tree r - 1 and the m changes from byte `base` on.

@@ -1,25 +1,25 @@
--- `shape::none_twice` meets its contract. The invariant: what is left gives the whole.
+-- `shape::none_twice` meets its contract. The invariant: what is left gives the whole, with the sheets passed marked.
 -- Assumes nothing.
-use Prim.Native.Nat.{_-_, _≤_}
-use mathlib.Core.Path.{_∙_, _≡_, ap, refl, sym}
+use Prim.Native.Nat.{_*_, _+_, _-_, _≤_}
+use mathlib.Core.Path.{_∙_, _≡_, refl, sym}
 use native.Mathlib.Omega.{arith}
 use borrow.Author.Needs.{needs}
-use borrow.Author.Tests.{eq-eqb, ne-eqb}
+use lib.ListN.{drop, getD, length, length-set}
+use Rattle.model.specs.Blocks.{parseLines}
 use Rattle.model.specs.Pass.{noneTwice}
-use Rattle.shape.proofs.Changes.{twice-none, twice-step}
-use Rattle.shape.proofs.LineLaws.{left-all}
+use Rattle.shape.proofs.Changes.{apart, apart-all, apart-fails, apart-none, apart-step}
 use Rattle.shape.proofs.none_twice.Statement.{statement}
 use Rattle.shape.specs.Lines.{left}
 use Rattle.shape.proofs.none_twice.Tie as tie
 
 abbrev Inv-loop : tie.InvT-loop
-Inv-loop s base m j₀ j = (j ≤ m) × (noneTwice (left s base m j) ≡ noneTwice (left s base m 0))
+Inv-loop s base m seen₀ j₀ seen j = (j ≤ m) × (length seen ≡ 256) × (apart seen (left s base m j) ≡ noneTwice (parseLines m (drop base s)))
 
 abbrev μ-loop : tie.MeasureT-loop
-μ-loop s base m j₀ j = m - j
+μ-loop s base m seen₀ j₀ seen j = m - j
 
 loop-holds : tie.Need-loop-holds Inv-loop μ-loop
-loop-holds c = (omega arith, refl)
+loop-holds c = let a = c .args in (omega arith, refl, apart-all (a .s .now) (a .base) (a .m) 256)
 
 mul-i : tie.Need-mul-i Inv-loop μ-loop
 mul-i c = search needs
@@ -30,18 +30,20 @@ add-i c = search needs
 shared-slice-read-i : tie.Need-shared-slice-read-i Inv-loop μ-loop
 shared-slice-read-i c = search needs
 
-add-names : tie.Need-add-names Inv-loop μ-loop
-add-names c = search needs
+cast-i : tie.Need-cast-i Inv-loop μ-loop
+cast-i c = omega (arith, c .shared-slice-known .given (c .before .before .before .args .base + 8 * c .before .before .loop .j))
 
-names-requires : tie.Need-names-requires Inv-loop μ-loop
-names-requires c κs = search needs
+array-read-if1 : tie.Need-array-read-if1 Inv-loop μ-loop
+array-read-if1 c = omega (arith, c .shared-slice-known .given (c .before .before .before .args .base + 8 * c .before .before .loop .j))
 
 returns : tie.Need-returns Inv-loop μ-loop
 returns c =
-    let a = c .before .before .before .before .before .before .args in
-    let l = c .before .before .before .before .loop in
-    sym (sym (ap noneTwice (left-all (a .s .now) (a .base) (a .m))) ∙ sym (l .inv .1) ∙ twice-step (a .s .now) (a .base) (a .m) (l .j) (omega arith)
-    ∙ rw (ne-eqb _ 0 (λ e. c .if1 .taken (c .before .names .ensures ∙ e))))
+    let a = c .before .before .before .before .args in
+    let l = c .before .before .before .loop in
+    sym (sym (l .inv .2) ∙ apart-fails (a .s .now) (a .base) (a .m) (l .seen) (l .j) (omega arith) (c .if1 .taken))
+
+array-write-seen : tie.Need-array-write-seen Inv-loop μ-loop
+array-write-seen c = omega (arith, c .before .shared-slice-known .given (c .before .before .before .before .args .base + 8 * c .before .before .before .loop .j))
 
 add-j : tie.Need-add-j Inv-loop μ-loop
 add-j c = search needs
@@ -51,15 +53,19 @@ loop-less c = search needs
 
 loop-again : tie.Need-loop-again Inv-loop μ-loop
 loop-again c =
-    let a = c .before .before .before .before .before .before .args in
-    let l = c .before .before .before .before .loop in
-    (omega arith, sym (twice-step (a .s .now) (a .base) (a .m) (l .j) (omega arith) ∙ rw (eq-eqb _ 0 (sym (c .before .names .ensures) ∙ c .if1 .left))) ∙ l .inv .1)
+    let a = c .before .before .before .before .args in
+    let l = c .before .before .before .loop in (
+      omega arith,
+      length-set (l .seen) (getD (a .s .now) (a .base + 8 * l .j) 0) 1 ∙ l .inv .1,
+      apart-step (a .s .now) (a .base) (a .m) (l .seen) (l .j) (omega arith)
+          (omega (arith, c .before .shared-slice-known .given (a .base + 8 * l .j), l .inv .1)) (c .if1 .left) ∙ l .inv .2,
+    )
 
 returns-2 : tie.Need-returns-2 Inv-loop μ-loop
 returns-2 c =
-    let a = c .before .before .before .args in
+    let a = c .before .before .args in
     let l = c .before .loop in
-    sym (sym (ap noneTwice (left-all (a .s .now) (a .base) (a .m))) ∙ sym (l .inv .1) ∙ twice-none (a .s .now) (a .base) (a .m) (l .j) (omega arith))
+    sym (sym (l .inv .2) ∙ apart-none (a .s .now) (a .base) (a .m) (l .seen) (l .j) (omega arith))
 
 pub none-twice-spec : {M : Type 1} → statement M
 none-twice-spec =
@@ -71,9 +77,10 @@ none-twice-spec =
     mul-i
     add-i
     shared-slice-read-i
-    add-names
-    names-requires
+    cast-i
+    array-read-if1
     returns
+    array-write-seen
     add-j
     loop-less
     loop-again
