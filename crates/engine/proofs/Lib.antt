@@ -1,4 +1,4 @@
--- The laws that the proofs of `engine` and of its callers cite, and demand 2.
+-- The laws that the proofs of `engine` and of its callers cite, and the demands.
 pub mod Fresh
 pub mod Parts
 pub mod Demand2

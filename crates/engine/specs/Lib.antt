@@ -1,2 +1,3 @@
 -- The definitions that the contracts of `engine` cite beside those of `model` and `inner`.
 pub mod Part
+pub mod Request

@@ -1,25 +1,19 @@
 // Every call of document 01, total: it checks what it is handed in the document's order, and either does its work or answers the refusal and leaves every buffer unchanged.
-// Each promise is one equation with the call's meaning in crates/model/specs/Calls.antt.
-ghost use mathlib.Core.Bool.{_||_};
+// Each promise is one equation with the call's meaning in crates/model/specs/Calls.antt. `call` takes any of them as one request (specs/Request.antt).
 ghost use mathlib.Core.List.{[]};
 ghost use mathlib.Core.Path.{_≡_};
-ghost use lib.Dec.{ltb};
-ghost use Rattle.entries.specs.View.{Fitting};
 ghost use Rattle.model.specs.Calls.{addCall, commitCall, copyCall, createCopy, createStore, deleteCall, editCall, logCall, moveCall, out, partOf, readPlace, revertCall, showPlace, sizeCondition, statusCall, updateCall};
-ghost use Rattle.model.specs.Refusals.{noSheet};
 ghost use Rattle.model.specs.Types.{answerOf, createdAs, numberOf};
-ghost use Rattle.store.specs.Opened.{openOf};
-ghost use Rattle.store.specs.declared.Opened.the-variants.{Open};
 ghost use Rattle.engine.specs.Part.{PartAt, ShownAt};
+ghost use Rattle.engine.specs.Request.{answered, called, requested, tellsOf};
+ghost use Rattle.inner.specs.Performs.{Within, callOf};
 ghost use Rattle.inner.specs.Place.{Located};
 use entries::Checked;
-use entries::View;
+use inner::Call;
+use inner::Reply;
 use model::Answer;
 use model::Place;
 use model::Refusal;
-use model::Span;
-use model::State;
-use store::Header;
 use store::Opened;
 
 // ---- create
@@ -234,6 +228,46 @@ pub fn revert(store: &[u8], copy: &mut [u8], mask: u32) -> Answer
     match c {
         Checked::Refused(k) => Answer::Refused(k),
         Checked::Ready(v) => updates::revert(store, copy, v, mask),
+    }
+}
+
+// ---- any call
+
+// A request: create of the store, create of the copy for a seat, or a call.
+pub enum Request {
+    CreateStore,
+    CreateCopy(u32),
+    Call(Call),
+}
+
+// One of the twelve calls, by its own function.
+fn call_named(store: &mut [u8], copy: &mut [u8], named: Call, bytes: &[u8]) -> Reply
+    ensures { λ r. ⌜ (answered (tellsOf r) (now (store .exit)) (now (copy .exit)) ≡ called (now (store .entry)) (now (copy .entry)) (callOf named (now (bytes .entry)))) × Within (now (store .exit)) (now (copy .exit)) r ⌝ }
+{
+    match named {
+        Call::Add(sheet) => Reply::Said(add(store, copy, sheet, bytes)),
+        Call::Edit(sheet) => Reply::Said(edit(store, copy, sheet, bytes)),
+        Call::Delete(sheet) => Reply::Said(delete(store, copy, sheet)),
+        Call::Copy(from, to) => Reply::Said(copy_sheet(store, copy, from, to)),
+        Call::Move(from, to) => Reply::Said(move_sheet(store, copy, from, to)),
+        Call::Commit(stamp, mask) => Reply::Said(commit(store, copy, stamp, mask)),
+        Call::Update(mask, revision) => Reply::Said(update(store, copy, mask, revision)),
+        Call::Revert(mask) => Reply::Said(revert(store, copy, mask)),
+        Call::Read(revision, sheet) => Reply::At(read_place(store, revision, sheet)),
+        Call::Show(sheet) => Reply::At(show_place(store, copy, sheet)),
+        Call::Status(sheet) => Reply::Said(status(store, copy, sheet)),
+        Call::Log(revision, sheet) => Reply::Said(log(store, revision, sheet)),
+    }
+}
+
+// The engine as one piece: any request on any two buffers. A create leaves the other buffer.
+pub fn call(store: &mut [u8], copy: &mut [u8], request: Request, bytes: &[u8]) -> Reply
+    ensures { λ r. ⌜ (answered (tellsOf r) (now (store .exit)) (now (copy .exit)) ≡ requested (now (store .entry)) (now (copy .entry)) request (now (bytes .entry))) × Within (now (store .exit)) (now (copy .exit)) r ⌝ }
+{
+    match request {
+        Request::CreateStore => Reply::Said(create_store(store)),
+        Request::CreateCopy(seat) => Reply::Said(create_copy(copy, seat)),
+        Request::Call(named) => call_named(store, copy, named, bytes),
     }
 }
 

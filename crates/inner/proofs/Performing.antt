@@ -40,7 +40,7 @@ none-heard store copy (InCopy p) h =
     let z : p .len ≡ 0 = omega (arith, h) in
     ap (λ (n : ℕ). bytes (take n (drop (p .start) copy))) z ∙ sym (ap (λ (n : ℕ). bytes (take n (drop (p .start) []))) z)
 
-none-inside : (store copy : Bytes) (x : Place) → Inside store [] x → Inside store copy x
+pub none-inside : (store copy : Bytes) (x : Place) → Inside store [] x → Inside store copy x
 none-inside store copy (Refused k) h = h
 none-inside store copy (InStore p) h = h
 none-inside store copy (InCopy p) h = omega (arith, h)
