@@ -89,42 +89,42 @@ word s rest a e h r =
 
 -- ---- lines, by the number of words: what they say, and the bytes of a fourth word
 
-abbrev Says : List ℕ → Option Turn → List ℕ → Type 0
-Says line t x = (lineTurn line ≡ t) × (fourthOf (words line) ≡ x)
+abbrev Told : List ℕ → Option Turn → List ℕ → Type 0
+Told line t x = (lineTurn line ≡ t) × (fourthOf (words line) ≡ x)
 
-says : (line : List ℕ) (ws : List (List ℕ)) → words line ≡ ws → Says line (turnOf ws) (fourthOf ws)
-says line ws e = (ap turnOf e, ap fourthOf e)
+told : (line : List ℕ) (ws : List (List ℕ)) → words line ≡ ws → Told line (turnOf ws) (fourthOf ws)
+told line ws e = (ap turnOf e, ap fourthOf e)
 
-pub line-one : (line : List ℕ) (a : ℕ) → a ≡ spanOf 32 line → length line ≤ a → Says line none []
+pub line-one : (line : List ℕ) (a : ℕ) → a ≡ spanOf 32 line → length line ≤ a → Told line none []
 unfolding turnOf fourthOf
-line-one line a e h = says line (line ∷ []) (words-last line (omega arith))
+line-one line a e h = told line (line ∷ []) (words-last line (omega arith))
 
 module _ (line rest : List ℕ) (a b : ℕ) (ea : a ≡ spanOf 32 line) (ha : a < length line) (er : rest ≡ tail (a + 1) line) (eb : b ≡ spanOf 32 rest) where
-  pub line-two : length rest ≤ b → Says line none []
+  pub line-two : length rest ≤ b → Told line none []
   unfolding turnOf fourthOf
-  line-two h = says line (take a line ∷ rest ∷ []) (let g : length rest ≤ spanOf 32 rest = omega arith in rw (word line rest a ea ha er, words-last rest g))
+  line-two h = told line (take a line ∷ rest ∷ []) (let g : length rest ≤ spanOf 32 rest = omega arith in rw (word line rest a ea ha er, words-last rest g))
 
   module _ (last : List ℕ) (c : ℕ) (hb : b < length rest) (el : last ≡ tail (b + 1) rest) (ec : c ≡ spanOf 32 last) where
-    pub line-three : length last ≤ c → Says line (threeOf (keyOf (take a line)) (numberOf (take b rest)) (numberOf last)) []
+    pub line-three : length last ≤ c → Told line (threeOf (keyOf (take a line)) (numberOf (take b rest)) (numberOf last)) []
     unfolding turnOf fourthOf
     line-three h =
         let g : length last ≤ spanOf 32 last = omega arith in
-        says line (take a line ∷ take b rest ∷ last ∷ []) (rw (word line rest a ea ha er, word rest last b eb hb el, words-last last g))
+        told line (take a line ∷ take b rest ∷ last ∷ []) (rw (word line rest a ea ha er, word rest last b eb hb el, words-last last g))
 
     module _ (end : List ℕ) (d : ℕ) (hc : c < length last) (ee : end ≡ tail (c + 1) last) (ed : d ≡ spanOf 32 end) where
       pub line-four : length end ≤ d
-          → Says line (fourOf (keyOf (take a line)) (numberOf (take b rest)) (numberOf (take c last)) (numberOf end) (hexOf end)) (bytesOr (hexOf end))
+          → Told line (fourOf (keyOf (take a line)) (numberOf (take b rest)) (numberOf (take c last)) (numberOf end) (hexOf end)) (bytesOr (hexOf end))
       unfolding turnOf fourthOf
       line-four h =
           let g : length end ≤ spanOf 32 end = omega arith in
-          says line (take a line ∷ take b rest ∷ take c last ∷ end ∷ [])
+          told line (take a line ∷ take b rest ∷ take c last ∷ end ∷ [])
           (rw (word line rest a ea ha er, word rest last b eb hb el, word last end c ec hc ee, words-last end g))
 
-      pub line-five : d < length end → Says line none []
+      pub line-five : d < length end → Told line none []
       unfolding turnOf fourthOf
       line-five h =
           let f = words-some (tail (d + 1) end) in
-          says line (take a line ∷ take b rest ∷ take c last ∷ take d end ∷ f .0 ∷ f .1)
+          told line (take a line ∷ take b rest ∷ take c last ∷ take d end ∷ f .0 ∷ f .1)
           (rw (word line rest a ea ha er, word rest last b eb hb el, word last end c ec hc ee, word end (tail (d + 1) end) d ed h refl, f .2))
 
 pub three-same : {k k′ : Key} {x x′ y y′ : Option ℕ} → k ≡ k′ → x ≡ x′ → y ≡ y′ → threeOf k x y ≡ threeOf k′ x′ y′

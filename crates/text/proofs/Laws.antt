@@ -192,7 +192,7 @@ pub hex-end : (s l : List ℕ) (at i : ℕ) → length s ≤ i → written (at +
 unfolding hexPairs
 hex-end s l at i h = rw (none-left s i h) (written-none (at + 2 * i) l)
 
-length-pairs : (s : List ℕ) → length (hexPairs s) ≡ 2 * length s
+pub length-pairs : (s : List ℕ) → length (hexPairs s) ≡ 2 * length s
 unfolding hexPairs
 length-pairs [] = refl
 length-pairs (x ∷ s) = omega (arith, length-pairs s)

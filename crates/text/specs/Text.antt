@@ -1,7 +1,7 @@
 -- Text: lines, words, decimal numbers and HEX, read and printed. A text is a list of bytes. Every definition computes.
 -- Assumes nothing.
 use Prim.Native.Nat.{_%_, _*_, _+_, _-_, _/_, _≤_, suc, zero, ℕ}
-use mathlib.Core.Bool.{Bool, _&&_, cond, not}
+use mathlib.Core.Bool.{Bool, _&&_, cond, false, not}
 use mathlib.Core.List.{List, [], _++_, _∷_}
 use mathlib.Core.Option.{Option, none, some}
 use lib.Dec.{eqb, leb, ltb}
@@ -76,9 +76,9 @@ abbrev pub arePairs : List ℕ → Bool
 arePairs w = not (eqb (length w) 0) && (eqb (length w % 2) 0 && all isDigit w)
 
 abbrev pub isDash : List ℕ → Bool
-isDash [] = eqb 0 1
+isDash [] = false
 isDash (x ∷ []) = eqb x 45
-isDash (x ∷ y ∷ w) = eqb 0 1
+isDash (x ∷ y ∷ w) = false
 
 -- "HEX is lower-case pairs or `-` for no bytes"
 unfoldable pub hexOf : List ℕ → Option (List ℕ)
