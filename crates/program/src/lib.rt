@@ -29,7 +29,7 @@ fn say(out: &mut [u8], at: usize, text: &[u8]) -> usize
 
 // A word and a number.
 fn say_number(out: &mut [u8], at: usize, word: &[u8], n: u32) -> usize
-    requires { ⌜ (length (now word) ≡ 3) × (at ≤ 4000000000) ⌝ }
+    requires { ⌜ (length (now word) ≡ 3) × (at ≤ 4_000_000_000) ⌝ }
     ensures { λ r. ⌜ r ≡ length (now (word .entry) ++ (decimalOf n ++ (10 ∷ []))) ⌝ }
     ensures { λ _. ⌜ now (out .exit) ≡ written at (now (word .entry) ++ (decimalOf n ++ (10 ∷ []))) (now (out .entry)) ⌝ }
     ensures { λ r. ⌜ r ≤ 14 ⌝ }
@@ -43,7 +43,7 @@ fn say_number(out: &mut [u8], at: usize, word: &[u8], n: u32) -> usize
 
 // `ok` and bytes.
 fn say_bytes(out: &mut [u8], at: usize, s: &[u8]) -> usize
-    requires { ⌜ at + 2 * length (now s) ≤ 4100000000 ⌝ }
+    requires { ⌜ at + 2 * length (now s) ≤ 4_100_000_000 ⌝ }
     ensures { λ r. ⌜ r ≡ length (textOf (bytesOf (now (s .entry)))) ⌝ }
     ensures { λ _. ⌜ now (out .exit) ≡ written at (textOf (bytesOf (now (s .entry)))) (now (out .entry)) ⌝ }
     ensures { λ r. ⌜ r ≤ 2 * length (now (s .entry)) + 5 ⌝ }
@@ -57,7 +57,7 @@ fn say_bytes(out: &mut [u8], at: usize, s: &[u8]) -> usize
 
 // The answer of a call.
 fn say_answer(out: &mut [u8], at: usize, answer: Answer) -> usize
-    requires { ⌜ at ≤ 4000000000 ⌝ }
+    requires { ⌜ at ≤ 4_000_000_000 ⌝ }
     ensures { λ r. ⌜ r ≡ length (textOf (answerOf answer)) ⌝ }
     ensures { λ _. ⌜ now (out .exit) ≡ written at (textOf (answerOf answer)) (now (out .entry)) ⌝ }
     ensures { λ r. ⌜ r ≤ 14 ⌝ }
@@ -78,10 +78,10 @@ fn say_answer(out: &mut [u8], at: usize, answer: Answer) -> usize
 
 // Get: a sheet of a revision, out of the store.
 fn get(out: &mut [u8], at: usize, store: &[u8], revision: u32, sheet: u32) -> usize
-    requires { ⌜ (length (now store) ≡ 16384) × (at ≤ 4000000000) ⌝ }
+    requires { ⌜ (length (now store) ≡ 16_384) × (at ≤ 4_000_000_000) ⌝ }
     ensures { λ r. ⌜ r ≡ length (textOf (readCall (now (store .entry)) revision sheet)) ⌝ }
     ensures { λ _. ⌜ now (out .exit) ≡ written at (textOf (readCall (now (store .entry)) revision sheet)) (now (out .entry)) ⌝ }
-    ensures { λ r. ⌜ r ≤ 32800 ⌝ }
+    ensures { λ r. ⌜ r ≤ 32_800 ⌝ }
 {
     let place = engine::read_place(store, revision, sheet);
     match place {
@@ -145,11 +145,11 @@ fn answer_line(
     out: &mut [u8],
     at: usize,
 ) -> usize
-    requires { ⌜ (length (now line) / 2 ≤ length (now bytes)) × (length (now store) ≡ 16384) × (at ≤ 4000000000) ⌝ }
+    requires { ⌜ (length (now line) / 2 ≤ length (now bytes)) × (length (now store) ≡ 16_384) × (at ≤ 4_000_000_000) ⌝ }
     ensures { λ r. ⌜ r ≡ length (answeredOn (pool (now (store .entry)) (now (one .entry)) (now (two .entry))) (lineTurn (now (line .entry))) .0) ⌝ }
     ensures { λ _. ⌜ now (out .exit) ≡ written at (answeredOn (pool (now (store .entry)) (now (one .entry)) (now (two .entry))) (lineTurn (now (line .entry))) .0) (now (out .entry)) ⌝ }
     ensures { λ _. ⌜ pool (now (store .exit)) (now (one .exit)) (now (two .exit)) ≡ answeredOn (pool (now (store .entry)) (now (one .entry)) (now (two .entry))) (lineTurn (now (line .entry))) .1 ⌝ }
-    ensures { λ r. ⌜ r ≤ 32800 ⌝ }
+    ensures { λ r. ⌜ r ≤ 32_800 ⌝ }
 {
     let said = command::parse(line, bytes);
     match said {
@@ -171,7 +171,7 @@ fn answer_lines(
     two: &mut [u8],
     out: &mut [u8],
 ) -> usize
-    requires { ⌜ (length (now input) ≤ 4096) × (length (now input) / 2 ≤ length (now bytes)) × (length (now store) ≡ 16384) ⌝ }
+    requires { ⌜ (length (now input) ≤ 4_096) × (length (now input) / 2 ≤ length (now bytes)) × (length (now store) ≡ 16_384) ⌝ }
     ensures { λ r. ⌜ r ≡ length (transcriptOn (pool (now (store .entry)) (now (one .entry)) (now (two .entry))) (lines (now (input .entry)))) ⌝ }
     ensures { λ _. ⌜ now (out .exit) ≡ written 0 (transcriptOn (pool (now (store .entry)) (now (one .entry)) (now (two .entry))) (lines (now (input .entry)))) (now (out .entry)) ⌝ }
 {
@@ -190,28 +190,28 @@ fn answer_lines(
 
 // A store of 32 blocks.
 fn store_space() -> [u8; 16384]
-    ensures { λ r. ⌜ 16384 ≡ length r ⌝ }
+    ensures { λ r. ⌜ 16_384 ≡ length r ⌝ }
 {
     [0; 16384]
 }
 
 // A working copy.
 fn copy_space() -> [u8; 16896]
-    ensures { λ r. ⌜ 16896 ≡ length r ⌝ }
+    ensures { λ r. ⌜ 16_896 ≡ length r ⌝ }
 {
     [0; 16896]
 }
 
 // The bytes of the longest line.
 fn bytes_space() -> [u8; 2048]
-    ensures { λ r. ⌜ 2048 ≡ length r ⌝ }
+    ensures { λ r. ⌜ 2_048 ≡ length r ⌝ }
 {
     [0; 2048]
 }
 
 // The lines of an input that is not too long, on a fresh store and fresh working copies.
 fn run_lines(input: &[u8], out: &mut [u8]) -> usize
-    requires { ⌜ length (now input) ≤ 4096 ⌝ }
+    requires { ⌜ length (now input) ≤ 4_096 ⌝ }
     ensures { λ r. ⌜ r ≡ length (output (now (input .entry))) ⌝ }
     ensures { λ _. ⌜ now (out .exit) ≡ written 0 (output (now (input .entry))) (now (out .entry)) ⌝ }
 {
@@ -229,8 +229,8 @@ fn run_lines(input: &[u8], out: &mut [u8]) -> usize
 pub fn run(input: &[u8], out: &mut [u8]) -> usize
     ensures { λ r. ⌜ r ≡ length (output (now (input .entry))) ⌝ }
     ensures { λ _. ⌜ now (out .exit) ≡ written 0 (output (now (input .entry))) (now (out .entry)) ⌝ }
-    ensures { λ r. ⌜ r ≤ 495737 ⌝ }
-    ensures { λ r. ⌜ (495737 ≤ length (now (out .entry)) → take r (now (out .exit)) ≡ output (now (input .entry))) ⌝ }
+    ensures { λ r. ⌜ r ≤ 495_737 ⌝ }
+    ensures { λ r. ⌜ (495_737 ≤ length (now (out .entry)) → take r (now (out .exit)) ≡ output (now (input .entry))) ⌝ }
 {
     if 4096 < input.len() {
         return say(out, 0, b"?\n");

@@ -4,14 +4,14 @@ ghost use lib.ListN.{length};
 
 // One byte more than the program takes.
 fn input_space() -> [u8; 4097]
-    ensures { λ r. ⌜ 4097 ≡ length r ⌝ }
+    ensures { λ r. ⌜ 4_097 ≡ length r ⌝ }
 {
     [0; 4097]
 }
 
 // Room for every output.
 fn output_space() -> [u8; 495737]
-    ensures { λ r. ⌜ 495737 ≡ length r ⌝ }
+    ensures { λ r. ⌜ 495_737 ≡ length r ⌝ }
 {
     [0; 495737]
 }

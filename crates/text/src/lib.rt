@@ -171,7 +171,7 @@ fn glyph(d: u8) -> u8
 
 // Bytes as pairs of digits.
 fn put_pairs(out: &mut [u8], at: usize, s: &[u8])
-    requires { ⌜ at + 2 * length (now s) ≤ 4294967295 ⌝ }
+    requires { ⌜ at + 2 * length (now s) ≤ 4_294_967_295 ⌝ }
     ensures { λ _. ⌜ now (out .exit) ≡ written at (hexPairs (now (s .entry))) (now (out .entry)) ⌝ }
 {
     let mut i = 0;
@@ -185,7 +185,7 @@ fn put_pairs(out: &mut [u8], at: usize, s: &[u8])
 
 // Bytes as HEX.
 pub fn put_hex(out: &mut [u8], at: usize, s: &[u8]) -> usize
-    requires { ⌜ at + 2 * length (now s) ≤ 4294967295 ⌝ }
+    requires { ⌜ at + 2 * length (now s) ≤ 4_294_967_295 ⌝ }
     ensures { λ r. ⌜ r ≡ length (hexText (now (s .entry))) ⌝ }
     ensures { λ _. ⌜ now (out .exit) ≡ written at (hexText (now (s .entry))) (now (out .entry)) ⌝ }
 {

@@ -1,5 +1,5 @@
--- Assumes nothing.
 -- A line of four words, by its key.
+-- Assumes nothing.
 use borrow.Author.Needs.{needs}
 use Rattle.command.proofs.four.Statement.{statement}
 use Rattle.command.proofs.four.Tie as tie

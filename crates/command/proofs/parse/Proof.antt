@@ -1,8 +1,9 @@
--- Assumes nothing.
 -- What a line says, by its words: one law for each number of them.
+-- Assumes nothing.
 use Prim.Native.Nat.{_+_, ℕ}
 use mathlib.Core.List.{List}
 use mathlib.Core.Path.{_∙_, ap, refl, sym}
+use borrow.Author.Needs.{needs}
 use lib.ListN.{length}
 use lib.Seq.{length-take-le}
 use Rattle.block.specs.Write.{written}
@@ -10,7 +11,6 @@ use Rattle.text.proofs.Laws.{unwritten}
 use Rattle.text.specs.Text.{words}
 use Rattle.command.specs.Command.{fourthOf}
 use Rattle.command.proofs.Laws.{four-same, line-five, line-four, line-one, line-three, line-two, tail, three-same}
-use borrow.Author.Needs.{needs}
 use Rattle.command.proofs.parse.Statement.{statement}
 use Rattle.command.proofs.parse.Tie as tie
 

@@ -1,7 +1,7 @@
--- Assumes nothing.
 -- A call by seat 1 or 2, and no other.
-use borrow.Author.Tests.{eq-eqb, ne-eqb}
+-- Assumes nothing.
 use native.Mathlib.Omega.{arith}
+use borrow.Author.Tests.{eq-eqb, ne-eqb}
 use Rattle.command.proofs.seated.Statement.{statement}
 use Rattle.command.proofs.seated.Tie as tie
 

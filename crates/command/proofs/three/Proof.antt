@@ -1,5 +1,5 @@
--- Assumes nothing.
 -- A line of three words, by its key.
+-- Assumes nothing.
 use borrow.Author.Needs.{needs}
 use Rattle.command.proofs.three.Statement.{statement}
 use Rattle.command.proofs.three.Tie as tie

@@ -1,13 +1,12 @@
--- Assumes nothing.
 -- A call of the engine, by its kind: its own equation.
-use mathlib.Core.Path.{_∙_, ap, sym}
+-- Assumes nothing.
+use mathlib.Core.Path.{_∙_, ap, sym, subst}
+use borrow.Author.Needs.{needs}
 use lib.ListN.{length}
 use lib.Seq.{length-take-le}
-use mathlib.Core.Path.{subst}
 use Rattle.command.specs.Command.{CallFits, callIn}
 use Rattle.command.specs.declared.Call.{Call}
 use Rattle.model.specs.Calls.{call}
-use borrow.Author.Needs.{needs}
 use Rattle.program.proofs.act.Statement.{statement}
 use Rattle.program.proofs.act.Tie as tie
 

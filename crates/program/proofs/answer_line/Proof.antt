@@ -1,12 +1,12 @@
-use Rattle.command.specs.Command.{CallFits}
--- Assumes nothing.
 -- One line, by what it says: the call's answer, the sheet, or `?`.
+-- Assumes nothing.
 use Prim.Native.Nat.{ℕ}
-use mathlib.Core.Option.{Option}
+use mathlib.Core.Option.{Option, none, some}
 use mathlib.Core.Path.{_∙_, _≡_, ap, refl, subst, sym}
-use mathlib.Core.Option.{none, some}
+use native.Mathlib.Omega.{arith}
+use borrow.Author.Needs.{needs}
 use lib.ListN.{length}
-use Rattle.command.specs.Command.{LineFits, callIn, lineTurn, turn, turnIn}
+use Rattle.command.specs.Command.{CallFits, LineFits, callIn, lineTurn, turn, turnIn}
 use Rattle.command.specs.declared.Line.{Line}
 use Rattle.model.specs.Calls.{readCall}
 use Rattle.model.specs.Machine.{Read}
@@ -16,8 +16,6 @@ use Rattle.program.specs.Buffers.{answeredOn, pool}
 use Rattle.program.specs.Output.{textOf, unknown}
 use Rattle.program.proofs.Lines.{line-buffers, line-text}
 use Rattle.program.proofs.Printing.{said-as}
-use native.Mathlib.Omega.{arith}
-use borrow.Author.Needs.{needs}
 use Rattle.program.proofs.answer_line.Statement.{statement}
 use Rattle.program.proofs.answer_line.Tie as tie
 

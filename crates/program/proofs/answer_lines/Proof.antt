@@ -1,8 +1,10 @@
--- Assumes nothing.
 -- The lines: what is left to print, from the line at `at` on, gives the whole.
+-- Assumes nothing.
 use Prim.Native.Nat.{_*_, _+_, _-_, _≤_}
 use mathlib.Core.List.{List}
 use mathlib.Core.Path.{_≡_, refl, subst, sym}
+use native.Mathlib.Omega.{arith}
+use borrow.Author.Needs.{needs}
 use lib.ListN.{drop, length, take}
 use lib.Seq.{length-take-le}
 use Rattle.block.specs.Write.{written}
@@ -11,14 +13,12 @@ use Rattle.model.specs.History.{Bytes}
 use Rattle.text.specs.Text.{lines}
 use Rattle.program.specs.Buffers.{pool, transcriptOn}
 use Rattle.program.proofs.Lines.{length-tail, lines-at, no-lines, over, printed}
-use borrow.Author.Needs.{needs}
-use native.Mathlib.Omega.{arith}
 use Rattle.program.proofs.answer_lines.Statement.{statement}
 use Rattle.program.proofs.answer_lines.Tie as tie
 
 abbrev Inv-loop : tie.InvT-loop
 Inv-loop input bytes₀ store₀ one₀ two₀ out₀ at₀ to₀ bytes store one two out at to =
-    (at ≤ length input + 1) × (to ≤ 32800 * at) × (length bytes ≡ length bytes₀) × (length store ≡ length store₀) × (length one ≡ length one₀) × (length two ≡ length two₀) × (length out ≡ length out₀)
+    (at ≤ length input + 1) × (to ≤ 32_800 * at) × (length bytes ≡ length bytes₀) × (length store ≡ length store₀) × (length one ≡ length one₀) × (length two ≡ length two₀) × (length out ≡ length out₀)
     × ((to + length (transcriptOn (pool store one two) (lines (drop at input))) ≡ length (transcriptOn (pool store₀ one₀ two₀) (lines input)))
     × (written to (transcriptOn (pool store one two) (lines (drop at input))) out ≡ written 0 (transcriptOn (pool store₀ one₀ two₀) (lines input)) out₀))
 

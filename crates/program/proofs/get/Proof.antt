@@ -1,9 +1,11 @@
--- Assumes nothing.
 -- A sheet out of the store: what stands at the place that `read_place` answers is what read is heard to say.
+-- Assumes nothing.
 use Prim.Native.Nat.{_+_, _-_, ℕ}
 use mathlib.Core.List.{List, [], _++_, _∷_}
 use mathlib.Core.Path.{_∙_, ap, subst, sym}
 use native.Mathlib.Nat.{add-sub-cancel-left}
+use native.Mathlib.Omega.{arith}
+use borrow.Author.Needs.{needs}
 use lib.ListN.{drop, length-take, take}
 use Rattle.engine.specs.Place.{Inside}
 use Rattle.model.specs.Calls.{Place, heard, readCall}
@@ -13,8 +15,6 @@ use Rattle.model.specs.declared.Place.{Place as ThePlace}
 use Rattle.text.specs.Text.{decimalOf}
 use Rattle.program.specs.Output.{textOf}
 use Rattle.program.proofs.Printing.{no-part, said-as}
-use native.Mathlib.Omega.{arith}
-use borrow.Author.Needs.{needs}
 use Rattle.program.proofs.get.Statement.{statement}
 use Rattle.program.proofs.get.Tie as tie
 

@@ -1,16 +1,16 @@
--- Assumes nothing.
 -- The output of an input, and that it fits.
+-- Assumes nothing.
 use Prim.Native.Nat.{_≤_, ℕ}
 use mathlib.Core.List.{List}
 use mathlib.Core.Path.{_∙_, _≡_, ap, sym}
+use native.Mathlib.Omega.{arith}
+use borrow.Author.Needs.{needs}
 use lib.ListN.{length, take}
 use Rattle.block.specs.Write.{written}
 use Rattle.text.proofs.Laws.{taken}
 use Rattle.program.specs.Output.{output, unknown}
 use Rattle.program.proofs.Printing.{said-as}
 use Rattle.program.proofs.Room.{output-room, too-long}
-use native.Mathlib.Omega.{arith}
-use borrow.Author.Needs.{needs}
 use Rattle.program.proofs.run.Statement.{statement}
 use Rattle.program.proofs.run.Tie as tie
 

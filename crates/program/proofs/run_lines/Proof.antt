@@ -1,18 +1,18 @@
--- Assumes nothing.
 -- The lines on fresh buffers, and so as the machine runs them from its fresh state.
+-- Assumes nothing.
 use Prim.Native.Nat.{ℕ}
 use mathlib.Core.List.{List}
 use mathlib.Core.Path.{_∙_, _≡_, ap, sym}
+use native.Mathlib.Omega.{arith}
+use borrow.Author.Needs.{needs}
 use Rattle.model.specs.Calls.{freshCopy, freshStore}
 use Rattle.text.specs.Text.{lines}
 use Rattle.program.specs.Buffers.{pool, transcriptOn}
 use Rattle.program.specs.Output.{output}
-use Rattle.program.proofs.Making.{copy-made, store-made}
 use Rattle.program.proofs.Machine.{fresh-transcript}
+use Rattle.program.proofs.Making.{copy-made, store-made}
 use Rattle.program.proofs.Printing.{said-as}
 use Rattle.program.proofs.Room.{not-long}
-use native.Mathlib.Omega.{arith}
-use borrow.Author.Needs.{needs}
 use Rattle.program.proofs.run_lines.Statement.{statement}
 use Rattle.program.proofs.run_lines.Tie as tie
 

@@ -1,15 +1,15 @@
--- Assumes nothing.
 -- The text of an answer, by its case.
+-- Assumes nothing.
 use Prim.Native.Nat.{ℕ}
 use mathlib.Core.List.{[], _++_, _∷_}
 use mathlib.Core.Path.{_∙_, ap, sym}
+use native.Mathlib.Omega.{arith}
+use borrow.Author.Needs.{needs}
 use Rattle.model.specs.Types.{answerOf}
 use Rattle.model.specs.declared.Answer.{Answer}
 use Rattle.text.specs.Text.{decimalOf}
 use Rattle.program.specs.Output.{ok, textOf}
 use Rattle.program.proofs.Printing.{said-as}
-use native.Mathlib.Omega.{arith}
-use borrow.Author.Needs.{needs}
 use Rattle.program.proofs.say_answer.Statement.{statement}
 use Rattle.program.proofs.say_answer.Tie as tie
 

@@ -1,14 +1,14 @@
--- Assumes nothing.
 -- `ok`, HEX and the end of the line.
+-- Assumes nothing.
 use Prim.Native.Nat.{_+_, ℕ}
 use mathlib.Core.List.{List, [], _∷_}
 use mathlib.Core.Path.{_∙_, ap, refl}
+use native.Mathlib.Omega.{arith}
+use borrow.Author.Needs.{needs}
 use lib.ListN.{set}
 use Rattle.text.proofs.Laws.{length-hex}
 use Rattle.text.specs.Text.{hexText}
 use Rattle.program.proofs.Printing.{said, said-length}
-use native.Mathlib.Omega.{arith}
-use borrow.Author.Needs.{needs}
 use Rattle.program.proofs.say_bytes.Statement.{statement}
 use Rattle.program.proofs.say_bytes.Tie as tie
 

@@ -1,13 +1,13 @@
--- Assumes nothing.
 -- A word, a number and the end of the line.
+-- Assumes nothing.
 use Prim.Native.Nat.{_+_}
 use mathlib.Core.Path.{_∙_, ap}
+use native.Mathlib.Omega.{arith}
+use borrow.Author.Needs.{needs}
 use lib.ListN.{set}
 use Rattle.text.proofs.Laws.{length-decimal}
 use Rattle.text.specs.Text.{decimalOf}
 use Rattle.program.proofs.Printing.{said, said-length}
-use native.Mathlib.Omega.{arith}
-use borrow.Author.Needs.{needs}
 use Rattle.program.proofs.say_number.Statement.{statement}
 use Rattle.program.proofs.say_number.Tie as tie
 

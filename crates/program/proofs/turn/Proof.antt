@@ -1,10 +1,10 @@
--- Assumes nothing.
 -- The copy of seat 1 or of seat 2.
+-- Assumes nothing.
+use native.Mathlib.Omega.{arith}
+use borrow.Author.Needs.{needs}
 use Rattle.command.specs.Command.{callIn}
 use Rattle.model.specs.Types.{answerOf}
 use Rattle.program.proofs.Lines.{by-one, by-two}
-use native.Mathlib.Omega.{arith}
-use borrow.Author.Needs.{needs}
 use Rattle.program.proofs.turn.Statement.{statement}
 use Rattle.program.proofs.turn.Tie as tie
 

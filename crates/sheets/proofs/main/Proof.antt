@@ -1,9 +1,9 @@
--- Assumes nothing.
 -- The program: the output fits its buffer.
+-- Assumes nothing.
 use mathlib.Core.Path.{sym}
-use lib.Seq.{length-take-le}
 use native.Mathlib.Omega.{arith}
 use borrow.Author.Needs.{needs}
+use lib.Seq.{length-take-le}
 use Rattle.sheets.proofs.main.Statement.{statement}
 use Rattle.sheets.proofs.main.Tie as tie
 

@@ -1,5 +1,5 @@
--- Assumes nothing.
 -- Whether all bytes are digits: whether those left are, from byte i on.
+-- Assumes nothing.
 use Prim.Native.Nat.{_-_, _≤_}
 use mathlib.Core.Path.{_∙_, _≡_, refl, sym}
 use native.Mathlib.Omega.{arith}
@@ -8,8 +8,6 @@ use lib.ListN.{drop, length}
 use Rattle.block.specs.Lists.{all}
 use Rattle.text.specs.Text.{isDigit}
 use Rattle.text.proofs.Laws.{digits-end, digits-next, digits-other}
-use borrow.Author.Needs.{needs}
-use native.Mathlib.Omega.{arith}
 use Rattle.text.proofs.all_digits.Statement.{statement}
 use Rattle.text.proofs.all_digits.Tie as tie
 

@@ -1,8 +1,8 @@
--- Assumes nothing.
 -- Pairs of digits, by the word's length.
+-- Assumes nothing.
 use mathlib.Core.Path.{_∙_, sym}
-use Rattle.text.proofs.Laws.{are-even, are-none, are-odd}
 use borrow.Author.Needs.{needs}
+use Rattle.text.proofs.Laws.{are-even, are-none, are-odd}
 use Rattle.text.proofs.are_pairs.Statement.{statement}
 use Rattle.text.proofs.are_pairs.Tie as tie
 

@@ -1,5 +1,5 @@
--- Assumes nothing.
 -- The bytes decoded: what is left to write from pair i on gives the whole.
+-- Assumes nothing.
 use Prim.Native.Nat.{_*_, _+_, _-_, _/_, _<_, _≤_}
 use mathlib.Core.Path.{_∙_, _≡_, ap, refl, sym}
 use native.Mathlib.Omega.{arith}
@@ -8,8 +8,6 @@ use lib.ListN.{drop, getD, length}
 use Rattle.block.specs.Write.{written}
 use Rattle.text.specs.Text.{digitOf, pairsOf}
 use Rattle.text.proofs.Laws.{digit-small, pairs-end, pairs-next}
-use borrow.Author.Needs.{needs}
-use native.Mathlib.Omega.{arith}
 use Rattle.text.proofs.decode.Statement.{statement}
 use Rattle.text.proofs.decode.Tie as tie
 

@@ -1,8 +1,8 @@
--- Assumes nothing.
 -- A dash alone, by the word's length.
+-- Assumes nothing.
 use mathlib.Core.Path.{sym}
-use Rattle.text.proofs.Laws.{dash-not, dash-one}
 use borrow.Author.Needs.{needs}
+use Rattle.text.proofs.Laws.{dash-not, dash-one}
 use Rattle.text.proofs.is_dash.Statement.{statement}
 use Rattle.text.proofs.is_dash.Tie as tie
 

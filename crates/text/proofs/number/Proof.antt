@@ -1,9 +1,9 @@
 -- The number that a word is, by the word's length.
 -- Assumes nothing.
-use native.Mathlib.Omega.{arith}
 use mathlib.Core.Path.{sym, _∙_}
-use Rattle.text.proofs.Laws.{number-none, number-one, number-zero, number-more}
+use native.Mathlib.Omega.{arith}
 use borrow.Author.Needs.{needs}
+use Rattle.text.proofs.Laws.{number-none, number-one, number-zero, number-more}
 use Rattle.text.proofs.number.Statement.{statement}
 use Rattle.text.proofs.number.Tie as tie
 

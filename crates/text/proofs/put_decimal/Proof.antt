@@ -1,15 +1,14 @@
--- Assumes nothing.
 -- `io`'s digits are the number's.
+-- Assumes nothing.
 use Prim.Native.Nat.{ℕ}
 use mathlib.Core.List.{List}
 use mathlib.Core.Path.{_∙_, _≡_, ap}
 use native.Mathlib.Omega.{arith}
+use borrow.Author.Needs.{needs}
 use lib.ListN.{length, take}
 use Rattle.block.specs.Write.{written}
 use Rattle.text.specs.Text.{decimalIn}
 use Rattle.text.proofs.Laws.{digits-decimal, few}
-use native.Mathlib.Omega.{arith}
-use borrow.Author.Needs.{needs}
 use Rattle.text.proofs.put_decimal.Statement.{statement}
 use Rattle.text.proofs.put_decimal.Tie as tie
 

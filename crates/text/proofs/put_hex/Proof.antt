@@ -1,13 +1,13 @@
--- Assumes nothing.
 -- Bytes as HEX, a dash for none.
+-- Assumes nothing.
+use Prim.Native.Nat.{_+_, ℕ}
 use mathlib.Core.List.{List, []}
 use mathlib.Core.Path.{_∙_, ap, sym}
-use Prim.Native.Nat.{_+_, ℕ}
+use borrow.Author.Needs.{needs}
 use lib.ListN.{length, set}
 use Rattle.block.proofs.Writing.{written-none, written-one}
 use Rattle.block.specs.Write.{written}
 use Rattle.text.proofs.Laws.{hex-empty, hex-some}
-use borrow.Author.Needs.{needs}
 use Rattle.text.proofs.put_hex.Statement.{statement}
 use Rattle.text.proofs.put_hex.Tie as tie
 

@@ -1,5 +1,5 @@
--- Assumes nothing.
 -- Bytes printed: what is left to write from byte i on gives the whole.
+-- Assumes nothing.
 use Prim.Native.Nat.{_*_, _+_, _-_, _≤_, ℕ}
 use mathlib.Core.List.{List}
 use mathlib.Core.Path.{_∙_, _≡_, ap, refl, sym}
@@ -10,8 +10,6 @@ use lib.ListN.{drop, length, set}
 use Rattle.block.specs.Write.{written}
 use Rattle.text.specs.Text.{hexPairs}
 use Rattle.text.proofs.Laws.{hex-end, hex-next}
-use borrow.Author.Needs.{needs}
-use native.Mathlib.Omega.{arith}
 use Rattle.text.proofs.put_pairs.Statement.{statement}
 use Rattle.text.proofs.put_pairs.Tie as tie
 

@@ -1,9 +1,9 @@
 -- How many bytes stand before the first b: those passed, and those left to pass.
 -- Assumes nothing.
-use borrow.Author.Needs.{needs}
-use native.Mathlib.Omega.{arith}
 use Prim.Native.Nat.{_+_, _-_, _≤_}
 use mathlib.Core.Path.{_≡_}
+use native.Mathlib.Omega.{arith}
+use borrow.Author.Needs.{needs}
 use lib.ListN.{length, drop}
 use Rattle.text.specs.Text.{spanOf}
 use Rattle.text.proofs.Laws.{span-here, span-next, span-end}

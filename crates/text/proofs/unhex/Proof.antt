@@ -1,15 +1,15 @@
--- Assumes nothing.
 -- The bytes of a word of HEX: none, those of its pairs, or no HEX.
+-- Assumes nothing.
+use Prim.Native.Nat.{_/_, _≤_, ℕ}
 use mathlib.Core.List.{List}
 use mathlib.Core.Option.{Option, some}
 use mathlib.Core.Path.{_∙_, _≡_, ap, sym}
-use Prim.Native.Nat.{_/_, _≤_, ℕ}
+use native.Mathlib.Omega.{arith}
+use borrow.Author.Needs.{needs}
 use lib.ListN.{length, take}
 use Rattle.block.specs.Write.{written}
 use Rattle.text.specs.Text.{bytesOr, hexOf, pairsOf}
 use Rattle.text.proofs.Laws.{are-digits, hex-dash, hex-none, hex-pairs, length-pairs-of, taken, unwritten}
-use native.Mathlib.Omega.{arith}
-use borrow.Author.Needs.{needs}
 use Rattle.text.proofs.unhex.Statement.{statement}
 use Rattle.text.proofs.unhex.Tie as tie
 

@@ -1,9 +1,9 @@
 -- The number that digits make: the value so far, and what is left of the word.
 -- Assumes nothing.
-use borrow.Author.Needs.{needs}
-use native.Mathlib.Omega.{arith}
 use Prim.Native.Nat.{_-_, _≤_}
 use mathlib.Core.Path.{_≡_, refl, sym, _∙_}
+use native.Mathlib.Omega.{arith}
+use borrow.Author.Needs.{needs}
 use lib.ListN.{length, drop}
 use Rattle.text.specs.Text.{valueOf}
 use Rattle.text.proofs.Laws.{value-other, value-large, value-next, value-end}
