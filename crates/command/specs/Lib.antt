@@ -1,0 +1,2 @@
+-- The program's lines as calls of the machine.
+pub mod Command

@@ -1,0 +1,2 @@
+-- Text as definitions: lines, words, numbers and HEX.
+pub mod Text
