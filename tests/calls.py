@@ -1,24 +1,31 @@
 #!/usr/bin/env python3
-"""Lists of calls by four seats through the engine, held to the model after every call.
+"""Lists of calls by four seats through the engine's C library, held to the model after every call.
 
-calls.py [--seed N] [--lists N] [FILE..]: random lists (answers, history, used blocks, entries and reads compared after every call), damaged buffers with the
-refusal that comes first and nothing changed, and the lists of the files named (one JSON object a line, as tests/lists.py reads them).
+calls.py [--seed N] [--lists N] [--only K] [FILE..]
+
+For each list a fresh store of 2 to 4,096 blocks and four fresh copies; answers, every byte of every buffer, and reads are compared. Then damage: bytes of the
+buffers changed, resealed or not, blocks exchanged, lengths wrong; the first refusal that holds by tests/model/accept.py must come and nothing may change, and
+where the buffers are accepted all the same, the call must do as the model does. A FILE has lists made elsewhere (one JSON object a line, as tests/lists.py
+reads them). At the first list that fails its seed and number are printed: `--seed N --only K` runs that list alone.
 """
-import json, pathlib, random, sys
+import argparse, json, pathlib, random, sys
 
 sys.path.insert(0, str(pathlib.Path(__file__).resolve().parent))
 sys.path.insert(0, str(pathlib.Path(__file__).resolve().parent / 'model'))
-import layout, lists, sheets
+import accept, layout, lists, sheets
 from engine import Engine
 
 CHANGING = ('add', 'edit', 'delete', 'copy', 'move', 'commit', 'update', 'revert')
+STORE_ONLY = ('read', 'log')
+ALL = 0xffffffff
 calls = failed = 0
 
 
 def fail(what):
     global failed
     failed += 1
-    print(what)
+    if failed <= 10:
+        print(what if len(what) < 400 else what[:400] + ' ..')
 
 
 class Desk:
@@ -27,120 +34,189 @@ class Desk:
     def __init__(self, engine, blocks):
         self.engine = engine
         self.model = sheets.Machine(blocks)
-        self.store = bytearray(blocks * 512)
-        self.copies = {k: bytearray(layout.COPY_LEN) for k in (1, 2, 3, 4)}
-        assert engine.create_store(self.store) == ('done',)
+        self.store = bytearray(b'\x5a' * blocks * 512)
+        self.copies = {k: bytearray(b'\x5a' * layout.COPY_LEN) for k in (1, 2, 3, 4)}
+        if engine.create_store(self.store) != ('done',) or self.store != layout.store_bytes(blocks, []):
+            fail(f'create of a store of {blocks} blocks')
         for k, copy in self.copies.items():
-            assert engine.create_copy(copy, k) == ('done',)
+            if engine.create_copy(copy, k) != ('done',) or copy != layout.copy_bytes(k, self.model.seats[k]):
+                fail(f'create of the copy of seat {k}')
 
     def call(self, name, seat, *args):
         global calls
         calls += 1
+        what = f'{name} by {seat} {args}'
         before = bytes(self.store), {k: bytes(c) for k, c in self.copies.items()}
         wanted = self.model.call(name, seat, *args)
         got = self.engine.call(name, self.store, self.copies[seat], *args)
         if got != wanted:
-            fail(f'{name} by {seat} {args}: {got}, not {wanted}')
-        if wanted[0] == 'no' or name not in CHANGING:
-            if (bytes(self.store), {k: bytes(c) for k, c in self.copies.items()}) != before:
-                fail(f'{name} by {seat} {args} changed a buffer')
-        if layout.history_of(bytes(self.store)) != (self.model.history, self.model.used):
-            fail(f'{name} by {seat} {args} leaves another history')
-        if bytes(self.store) != layout.store_bytes(self.model.blocks, self.model.history):
-            fail(f'{name} by {seat} {args} leaves another layout')
+            fail(f'{what}: {got}, not {wanted}')
+        if name == 'commit' and wanted[0] != 'no':
+            if layout.history_of(bytes(self.store)) != (self.model.history, self.model.used):
+                fail(f'{what} leaves another history')
+            if self.store != layout.store_bytes(self.model.blocks, self.model.history):
+                fail(f'{what} leaves another layout')
+        elif self.store != before[0]:
+            fail(f'{what} changed the store')
         for k, copy in self.copies.items():
-            if bytes(copy) != layout.copy_bytes(k, self.model.seats[k]):
-                fail(f'{name} by {seat} {args} leaves another copy of seat {k}')
-        return got
+            changes = k == seat and name in CHANGING and wanted[0] != 'no'
+            if copy != (layout.copy_bytes(k, self.model.seats[k]) if changes else before[1][k]):
+                fail(f'{what} leaves another copy of seat {k}')
+        return wanted
 
     def look(self, rng):
-        """Reads at every revision of one sheet, and of every sheet at one."""
-        sheet, revision = rng.randrange(32), rng.randint(0, self.model.last())
-        for r, i in [(r, sheet) for r in range(self.model.last() + 1)] + [(revision, i) for i in range(32)]:
+        """Reads at every revision of one sheet, and of every sheet at one; of many revisions a sample."""
+        global calls
+        last, sheet, revision = self.model.last(), rng.randrange(32), rng.randint(0, self.model.last())
+        revisions = range(last + 1) if last < 40 else rng.sample(range(last + 1), 40)
+        for r, i in [(r, sheet) for r in revisions] + [(revision, i) for i in range(32)]:
+            calls += 1
             if self.engine.read(self.store, r, i) != self.model.call('read', 1, r, i):
                 fail(f'read {r} {i}')
 
 
-def random_list(engine, rng, blocks, count):
-    desk = Desk(engine, blocks)
+def random_list(engine, rng, number):
+    """A list of random calls. List 0 fills a store of 4,096 blocks to its last block first, and so do a few others with smaller ones."""
+    desk = Desk(engine, rng.choice([2, 3, 4, 8, 12, 32, 64, 65, 200, 1000, 4096]) if number else 4096)
+    count = rng.choice([60, 150, 300])
+    if number == 0 or desk.model.blocks < 1000 and rng.random() < 0.15:
+        fill(desk, rng)
+        count = 60
     for n in range(count):
         desk.call(*lists.random_call(rng, desk.model))
-        if n % 10 == 0:
+        if n % 20 == 0:
             desk.look(rng)
     return desk
 
 
+def fill(desk, rng):
+    """Commits of many sheets by the seats in turn, until one finds no room; then smaller ones, until none does."""
+    for most in (32, 4, 1):
+        answer = ()
+        while answer != ('no', 13):
+            seat, model = rng.randint(1, 4), desk.model
+            desk.call('revert', seat, ALL)
+            desk.call('update', seat, ALL, model.last())
+            for sheet in rng.sample(range(32), most):
+                data = bytes([rng.getrandbits(8)]) * rng.choice([1, 7, 480])
+                desk.call('add' if model.seats[seat][sheet] == sheets.EMPTY else 'edit', seat, sheet, data)
+            answer = desk.call('commit', seat, rng.getrandbits(32), ALL)
+
+
+def entry(rng, last):
+    """Some entry, whose base or source may be absent."""
+    revision, data = max(1, last + rng.choice([1, 0, 0, -1])), bytes(rng.choice([0, 1, 480]))
+    return rng.choice([('normal', revision, data), ('added', data), ('deleted', revision), ('copied', (rng.choice([0, 1, 2, 3, 5, 31]), revision), data)])
+
+
+def damage(rng, store, copy, last):
+    """Changes a byte or a block of one of the buffers, or its length, and mostly seals the block again."""
+    if rng.random() < 0.2:
+        at = rng.choice([1, 2, 3, 4, 6, 8, 32]) * 512
+        copy[at:at + 512] = layout.entry_block(entry(rng, last))
+        return
+    buffer = rng.choice([store, copy])
+    kind = rng.choice(['byte'] * 8 + ['head'] * 6 + ['exchange'] * 2 + ['number'] * 2 + ['blank', 'length'])
+    number = rng.randrange(min(len(buffer) // 512, rng.choice([4, 33, 4096])))
+    at = number * 512
+    if kind == 'byte':
+        buffer[at + rng.randrange(512)] ^= 1 << rng.randrange(8)
+    elif kind == 'head':
+        buffer[at + rng.randrange(32)] = rng.choice([0, 1, 2, 3, 4, 5, 6, 31, 32, 224, 255])
+    elif kind == 'number':  # a length, a revision or a stamp that is one more or one less
+        field = at + rng.choice([2, 4, 8])
+        value = layout.two_at(buffer, field) + rng.choice([-1, 1])
+        buffer[field:field + 2] = layout.two(value % 65536)
+    elif kind == 'exchange':
+        other = rng.randrange(len(buffer) // 512) * 512
+        buffer[at:at + 512], buffer[other:other + 512] = buffer[other:other + 512], buffer[at:at + 512]
+    elif kind == 'blank':
+        buffer[at:at + 512] = bytes(512)
+        return
+    else:
+        if rng.random() < 0.5:
+            del buffer[-rng.choice([1, 511, 512]):]
+        else:
+            buffer.extend(bytes(rng.choice([1, 511, 512])))
+        return
+    if rng.random() < 0.85:
+        buffer[at:at + 512] = layout.sealed(bytes(buffer[at:at + 508]))
+
+
 def damaged(engine, rng, desk):
-    """One wrong thing, or two, in the buffers: the refusal that comes first, and nothing changed."""
+    """Damaged buffers: the refusal that comes first and nothing changed, or a call as the model does it."""
     global calls
-    seat = rng.randint(1, 4)
-    for _ in range(30):
+    for _ in range(40 if desk.model.blocks <= 200 else 8):
+        seat = rng.randint(1, 4)
         store, copy = bytearray(desk.store), bytearray(desk.copies[seat])
-        wanted = []
-        kinds = rng.sample(('length', 'check', 'layout', 'copy length', 'copy check', 'copy layout', 'unfit'), rng.randint(1, 2))
-        if 'check' in kinds:
-            store[rng.randrange(len(store))] ^= 1 << rng.randrange(8)
-            wanted.append(2)
-        elif 'layout' in kinds:
-            store[0:512] = layout.sealed([1, 1, 1])
-            wanted.append(3)
-        if 'copy check' in kinds:
-            copy[rng.randrange(len(copy))] ^= 1 << rng.randrange(8)
-            wanted.append(5)
-        elif 'copy layout' in kinds:
-            copy[512:1024] = layout.sealed([5, rng.choice([1, 3, 5])])
-            wanted.append(5)
-        elif 'unfit' in kinds:
-            copy[512:1024] = layout.entry_block(('normal', desk.model.last() + 1, b'x'))
-            wanted.append(6)
-        if 'length' in kinds:
-            del store[-rng.randint(1, 511):]
-            wanted.append(1)
-        if 'copy length' in kinds:
-            copy.extend(bytes(rng.randint(1, 512)))
-            wanted.append(4)
+        for _ in range(rng.choice([1, 1, 2])):
+            damage(rng, store, copy, desk.model.last())
         name, _, *args = lists.random_call(rng, desk.model)
-        if name in ('read', 'log'):
-            wanted = [n for n in wanted if n <= 3]
-        if not wanted:
-            continue
         calls += 1
         before = bytes(store), bytes(copy)
+        number = accept.refusal(store, None if name in STORE_ONLY else copy)
         got = engine.call(name, store, copy, *args)
-        if got != ('no', min(wanted)):
-            fail(f'{name} {args} on damage {kinds}: {got}, not {min(wanted)}')
+        what = f'{name} {args} on damaged buffers'
+        if number:
+            if got != ('no', number):
+                fail(f'{what}: {got}, not {number}')
+            if (bytes(store), bytes(copy)) != before:
+                fail(f'{what} changed a buffer')
+        else:
+            accepted(what, name, args, got, before, store, copy)
+
+
+def accepted(what, name, args, got, before, store, copy):
+    """A call on buffers of any origin that are accepted."""
+    model = sheets.Machine(len(store) // 512)
+    model.history, model.used = layout.history_of(before[0])
+    seat = 1
+    if name not in STORE_ONLY:
+        seat = before[1][1]
+        model.seats[seat] = layout.entries_of(before[1])
+    wanted = model.call(name, seat, *args)
+    if got != wanted:
+        fail(f'{what}: {got}, not {wanted}')
+    if layout.history_of(bytes(store)) != (model.history, model.used):
+        fail(f'{what} leaves another history')
+    if wanted[0] == 'no' or name not in CHANGING:
         if (bytes(store), bytes(copy)) != before:
-            fail(f'{name} {args} on damage {kinds} changed a buffer')
+            fail(f'{what} changed a buffer')
+    elif copy != layout.copy_bytes(seat, model.seats[seat]):
+        fail(f'{what} leaves another copy')
 
 
 def from_file(engine, path):
-    for l in open(path):
-        n, cs, answers, used, history, seats = lists.from_json(json.loads(l))
-        desk = Desk(engine, n)
+    plain = lambda x: tuple(plain(y) if isinstance(y, (list, tuple)) else y for y in x)
+    for number, line in enumerate(open(path)):
+        blocks, cs, answers, used, history, seats = lists.from_json(json.loads(line))
+        desk = Desk(engine, blocks)
         for c, a in zip(cs, answers):
-            got = desk.call(*c)
-            plain = lambda x: tuple(plain(y) if isinstance(y, (list, tuple)) else y for y in x)
-            if plain(got) != plain(a):
-                fail(f'{path}: {c}: {got}, not {a}')
+            answer = desk.call(*c)
+            if plain(answer) != plain(a):
+                fail(f'{path}, list {number}: {c}: {answer}, not {a}')
+        written = lambda *end: lists.theorems(blocks, cs, answers, *end)
+        if written(desk.model.used, desk.model.history, desk.model.seats) != written(used, history, seats):
+            fail(f'{path}, list {number}: another end')
 
 
 def main():
-    args = sys.argv[1:]
-    take = lambda flag, default: int(args.pop(args.index(flag) + 1)) if flag in args else default
-    seed, count = take('--seed', 1), take('--lists', 60)
-    files = [a for a in args if not a.startswith('--')]
+    parser = argparse.ArgumentParser(description=__doc__, formatter_class=argparse.RawDescriptionHelpFormatter)
+    parser.add_argument('--seed', type=int, default=1)
+    parser.add_argument('--lists', type=int, default=60)
+    parser.add_argument('--only', type=int, metavar='K')
+    parser.add_argument('files', nargs='*', metavar='FILE')
+    given = parser.parse_args()
     engine = Engine()
-    for n in range(count):
-        rng = random.Random(seed * 1000 + n)
-        desk = random_list(engine, rng, rng.choice([2, 3, 4, 8, 12, 32, 64, 65, 200]), rng.choice([60, 150, 300]))
-        damaged(engine, rng, desk)
+    for n in range(given.lists) if given.only is None else [given.only]:
+        rng = random.Random(f'{given.seed} {n}')
+        damaged(engine, rng, random_list(engine, rng, n))
         if failed:
-            print(f'seed {seed}, list {n}')
+            print(f'failed in this list: tests/calls.py --seed {given.seed} --only {n}')
             break
-    for f in files:
-        from_file(engine, f)
-    print(f'{calls} calls')
-    print(f'{calls - failed} passed, {failed} failed')
+    for path in given.files:
+        from_file(engine, path)
+    print(f'{calls} calls, {failed} wrong')
     sys.exit(failed != 0)
 
 

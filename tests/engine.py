@@ -2,7 +2,7 @@
 
 Answers are those of tests/model: ('no', number), ('done',), ('revision', R), ('bytes', bytes), ('status', number), ('log', ..).
 """
-import ctypes, pathlib, subprocess
+import ctypes, os, pathlib, subprocess
 
 ROOT = pathlib.Path(__file__).resolve().parent.parent
 u32, size_t = ctypes.c_uint32, ctypes.c_size_t
@@ -21,11 +21,14 @@ class LogEntry(ctypes.Structure):
 
 
 def build():
-    """The static library as one that Python can load."""
-    subprocess.run(['rt', 'staticlib', 'sheetstore'], cwd=ROOT, check=True, stdout=subprocess.DEVNULL)
-    library = ROOT / 'target' / 'staticlib' / 'libsheetstore.so'
-    subprocess.run(['gcc', '-shared', '-o', library, '-Wl,--whole-archive', ROOT / 'target' / 'staticlib' / 'libsheetstore.a', '-Wl,--no-whole-archive'], check=True)
-    return ctypes.CDLL(str(library))
+    """The static library as one that Python can load. SHEETSTORE_LIB names the folder of a libsheetstore.a that is built already."""
+    folder = os.environ.get('SHEETSTORE_LIB')
+    if folder is None:
+        subprocess.run(['rt', 'staticlib', 'sheetstore'], cwd=ROOT, check=True, stdout=subprocess.DEVNULL)
+        folder = ROOT / 'target' / 'staticlib'
+    archive, library = (pathlib.Path(folder) / f'libsheetstore.{kind}' for kind in ('a', 'so'))
+    subprocess.run(['gcc', '-shared', '-o', library, '-Wl,--whole-archive', archive, '-Wl,--no-whole-archive'], check=True)
+    return ctypes.CDLL(str(library.resolve()))
 
 
 class Engine:

@@ -132,10 +132,13 @@ def main():
     repo = ROOT / 'target' / 'lists'
     crate = repo / 'crates' / 'lists'
     subprocess.run(['rm', '-rf', str(crate)])
-    for folder in ('src', 'specs', 'proofs'):
-        (crate / folder).mkdir(parents=True)
+    for folder in (crate / 'src', crate / 'specs', crate / 'proofs', repo / 'target' / 'rlib', repo / 'target' / 'stamp'):
+        folder.mkdir(parents=True, exist_ok=True)
     for name in ('block', 'model'):
-        subprocess.run(['cp', '-rT', str(ROOT / 'crates' / name), str(repo / 'crates' / name)], check=True)
+        # with what is proved of it already: rt looks whether that is still so
+        for path in (f'crates/{name}', f'target/rlib/{name}.rlib', f'target/stamp/{name}'):
+            if (ROOT / path).exists():
+                subprocess.run(['cp', '-rT', str(ROOT / path), str(repo / path)], check=True)
     (repo / 'crates.txt').write_text('block:\nmodel: block\nlists: block model\n')
     (crate / 'src' / 'lib.rt').write_text('// Lists of calls, computed: see proofs/.\n')
     (crate / 'specs' / 'Lib.antt').write_text('')

@@ -1,32 +1,34 @@
 #!/usr/bin/env python3
-"""Inputs through the program target/bin/sheets, held to what it must print.
+"""The samples of document 01's program, and random inputs.
 
-program.py [--seed N] [--scripts N] [DIR..]: random scripts, held to the model (tests/model/program.py); and of each folder named every N.in, held to its N.out.
-`rt check sheets` builds the program.
+program.py [--seed N] [--inputs N] [PROGRAM]
+
+Each input of tests/vectors/program is run on the model and on the engine's C library, by the reading of lines in tests/model/program.py; what is printed must be
+the sample's output. Random inputs are run on both, and must agree. With a PROGRAM, it is run on all of them too.
 """
-import pathlib, random, subprocess, sys
+import argparse, pathlib, random, subprocess, sys
 
-ROOT = pathlib.Path(__file__).resolve().parent.parent
-sys.path.insert(0, str(ROOT / 'tests' / 'model'))
-import program, sheets
+ROOT = pathlib.Path(__file__).resolve().parent
+sys.path.insert(0, str(ROOT))
+sys.path.insert(0, str(ROOT / 'model'))
+import layout, program, sheets
+from engine import Engine
 
-PROGRAM = ROOT / 'target' / 'bin' / 'sheets'
-passed = failed = 0
-
-
-def held(name, data, wanted):
-    global passed, failed
-    got = subprocess.run([str(PROGRAM)], input=data, stdout=subprocess.PIPE).stdout
-    if got == wanted:
-        passed += 1
-        return
-    failed += 1
-    lines = zip(data.split(b'\n'), got.split(b'\n'), wanted.split(b'\n'))
-    first = next((f'line {n}, {l[:60]!r}: {g[:60]!r}, not {w[:60]!r}' for n, (l, g, w) in enumerate(lines, 1) if g != w), 'another length')
-    print(f'{name}: {first}')
+failed = 0
 
 
-# ---- random scripts
+def by_model(text):
+    return program.printed(text, sheets.Machine(program.BLOCKS).call)
+
+
+def by_library(engine, text):
+    store = bytearray(program.BLOCKS * 512)
+    copies = {k: bytearray(layout.COPY_LEN) for k in (1, 2)}
+    engine.create_store(store)
+    for k, copy in copies.items():
+        engine.create_copy(copy, k)
+    return program.printed(text, lambda name, seat, *args: engine.call(name, store, copies[seat], *args))
+
 
 def line(rng, machine):
     """A line, mostly one that says something; the machine knows which revisions and sheets there are."""
@@ -51,11 +53,11 @@ def line(rng, machine):
 
 
 def script(rng):
-    machine = sheets.Machine(32)
+    machine = sheets.Machine(program.BLOCKS)
     lines, most = [], rng.choice([200, 1000, 4000, 4000])
     while sum(len(l) + 1 for l in lines) < most:
         l = line(rng, machine)
-        c = program.call(l)
+        c = program.parsed(l)
         if c:
             machine.call(*c)
         lines.append(l)
@@ -77,29 +79,36 @@ def limits(rng):
     return (rng.choice([b'get 0 0\n', b'\n', b'x', b'put 1 0\n', b' ', b'add 1 5 -\nput 1 1\n']) * size)[:size]
 
 
+def expect(what, text, wanted, runs):
+    global failed
+    for who, run in runs.items():
+        got = run(text)
+        if got != wanted:
+            failed += 1
+            line = next((k for k, (a, b) in enumerate(zip(got.split(b'\n'), wanted.split(b'\n')), 1) if a != b), 'the last')
+            print(f'{what}: the {who} prints something else, from line {line}')
+
+
 def main():
-    args = sys.argv[1:]
-
-    def take(flag, default):
-        if flag not in args:
-            return default
-        at = args.index(flag)
-        value = int(args[at + 1])
-        del args[at:at + 2]
-        return value
-
-    seed, count = take('--seed', 1), take('--scripts', 300)
-    for folder in args:
-        for path in sorted(pathlib.Path(folder).glob('*.in')):
-            held(path.name, path.read_bytes(), path.with_suffix('.out').read_bytes())
-    held('no input', b'', b'')
-    for n in range(count):
-        rng = random.Random(seed * 1000 + n)
+    parser = argparse.ArgumentParser(description=__doc__, formatter_class=argparse.RawDescriptionHelpFormatter)
+    parser.add_argument('--seed', type=int, default=1)
+    parser.add_argument('--inputs', type=int, default=200)
+    parser.add_argument('program', nargs='?', metavar='PROGRAM')
+    given = parser.parse_args()
+    engine = Engine()
+    runs = {'library': lambda text: by_library(engine, text)}
+    if given.program:
+        runs['program'] = lambda text: subprocess.run([given.program], input=text, stdout=subprocess.PIPE, check=True).stdout
+    samples = sorted((ROOT / 'vectors' / 'program').glob('*.in'))
+    for path in samples:
+        expect(path.name, path.read_bytes(), path.with_suffix('.out').read_bytes(), dict(model=by_model, **runs))
+    for n in range(given.inputs):
+        rng = random.Random(f'{given.seed} {n}')
         for make in (script, long_sheets, limits) if n % 10 == 0 else (script,):
-            data = make(rng)
-            held(f'seed {seed}, {make.__name__} {n}', data, program.output(data))
-    print(f'{passed} passed, {failed} failed')
-    sys.exit(failed != 0 or passed == 0)
+            text = make(rng)
+            expect(f'seed {given.seed}, {make.__name__} {n}', text, by_model(text), runs)
+    print(f'{len(samples)} samples, {given.inputs} random inputs, {failed} wrong')
+    sys.exit(failed != 0 or not samples)
 
 
 if __name__ == '__main__':

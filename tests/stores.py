@@ -149,7 +149,7 @@ def main():
     single_bytes(engine)
     broken_rules(engine)
     histories(engine, random.Random(seed), 12)
-    print(f'{passed} passed, {failed} failed' + (f' (seed {seed})' if failed else ''))
+    print(f'{passed + failed} answers, {failed} wrong' + (f': tests/stores.py {seed}' if failed else ''))
     sys.exit(failed != 0)
 
 

@@ -1,8 +1,10 @@
 """The blocks of document 01 in plain Python, made apart from the engine: bytes of a history and of a working copy, and back.
 
 `store_bytes` lays a history out, in sheet order or in an order of the caller's; `history_of` and `entries_of` read buffers
-that are known to be layouts. Nothing here checks a layout.
+that are known to be layouts. Nothing here checks a layout: accept.py does.
 """
+import functools
+
 from sheets import COPY, DELETE
 
 BLOCK = 512
@@ -17,11 +19,15 @@ def sums(block):
     return a, b
 
 
-def sealed(named):
-    """A block: its named bytes, zeros, and the check."""
-    block = bytes(named) + bytes(508 - len(named))
+@functools.lru_cache(100_000)
+def with_check(block):
     a, b = sums(block)
     return block + a.to_bytes(2, 'little') + b.to_bytes(2, 'little')
+
+
+def sealed(named):
+    """A block: its named bytes, zeros, and the check."""
+    return with_check(bytes(named) + bytes(508 - len(named)))
 
 
 def resealed(buffer, number):
@@ -32,6 +38,10 @@ def resealed(buffer, number):
 
 def two(n):
     return n.to_bytes(2, 'little')
+
+
+def two_at(block, k):
+    return block[k] + 256 * block[k + 1]
 
 
 def label():
@@ -80,8 +90,7 @@ def store_bytes(blocks, history, order=None):
 def history_of(store):
     """The history that a store is known to lay out, and its used blocks."""
     blocks = [store[i:i + BLOCK] for i in range(0, len(store), BLOCK)]
-    at = lambda b, k: b[k] + 256 * b[k + 1]
-    held = lambda p: blocks[p][16:16 + at(blocks[p], 2)]
+    held = lambda p: blocks[p][16:16 + two_at(blocks[p], 2)]
     history, used = [], 1
     for b in blocks[1:]:
         if b[0] == 0:
@@ -89,9 +98,9 @@ def history_of(store):
         used += 1
         if b[0] == 3:
             changes = {}
-            for j in range(at(b, 2)):
+            for j in range(two_at(b, 2)):
                 l = b[16 + 8 * j:24 + 8 * j]
-                changes[l[0]] = (l[1], None if l[1] == DELETE else held(at(l, 2)), (l[4], at(l, 6)) if l[1] == COPY else None)
+                changes[l[0]] = (l[1], None if l[1] == DELETE else held(two_at(l, 2)), (l[4], two_at(l, 6)) if l[1] == COPY else None)
             history.append((b[6], int.from_bytes(b[8:12], 'little'), changes))
     return history, used
 
@@ -109,12 +118,13 @@ def copy_bytes(seat, entries):
     return sealed([4, seat]) + b''.join(map(entry_block, entries))
 
 
+def entry_of(block):
+    """The entry that a block is known to lay out."""
+    data = bytes(block[16:16 + two_at(block, 2)])
+    base, source = two_at(block, 4), (block[6], two_at(block, 8))
+    return [('empty',), ('normal', base, data), ('added', data), ('deleted', base), ('copied', source, data)][block[1]]
+
+
 def entries_of(copy):
     """The entries that a working copy is known to lay out."""
-    out = []
-    for i in range(32):
-        b = copy[(1 + i) * BLOCK:(2 + i) * BLOCK]
-        at = lambda k: b[k] + 256 * b[k + 1]
-        data = bytes(b[16:16 + at(2)])
-        out.append([('empty',), ('normal', at(4), data), ('added', data), ('deleted', at(4)), ('copied', (b[6], at(8)), data)][b[1]])
-    return out
+    return [entry_of(copy[(1 + i) * BLOCK:(2 + i) * BLOCK]) for i in range(32)]

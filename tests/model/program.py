@@ -1,68 +1,52 @@
-"""The program of document 01 on the model: what it prints, from what it reads."""
+"""The program of document 01 in plain Python: what it prints for an input, given something that does the calls.
+
+`printed(text, call)` takes the input's bytes; `call(name, seat, *args)` answers as the model does, on a fresh store of 32 blocks with seats 1 and 2.
+"""
 import re
 
-import sheets
-
-NUMBER = rb'(0|[1-9][0-9]*)'
-HEX = rb'(-|(?:[0-9a-f]{2})+)'
-LINES = [(name, re.compile(pattern)) for name, pattern in (
-    ('add', rb'add %s %s %s' % (NUMBER, NUMBER, HEX)),
-    ('edit', rb'set %s %s %s' % (NUMBER, NUMBER, HEX)),
-    ('delete', rb'del %s %s' % (NUMBER, NUMBER)),
-    ('copy', rb'cp %s %s %s' % (NUMBER, NUMBER, NUMBER)),
-    ('move', rb'mv %s %s %s' % (NUMBER, NUMBER, NUMBER)),
-    ('commit', rb'put %s %s' % (NUMBER, NUMBER)),
-    ('update', rb'up %s %s' % (NUMBER, NUMBER)),
-    ('read', rb'get %s %s' % (NUMBER, NUMBER)))]
+BLOCKS = 32
 ALL = 0xffffffff
+NUMBER = '(0|[1-9][0-9]*)'
+HEX = '(-|(?:[0-9a-f][0-9a-f])+)'
+LINES = {word: re.compile(' '.join((word, *fields)).encode()) for word, fields in dict(
+    add=(NUMBER, NUMBER, HEX), set=(NUMBER, NUMBER, HEX), cp=(NUMBER, NUMBER, NUMBER), mv=(NUMBER, NUMBER, NUMBER),
+    put=(NUMBER, NUMBER), up=(NUMBER, NUMBER), get=(NUMBER, NUMBER), **{'del': (NUMBER, NUMBER)}).items()}
+CALLS = {'add': 'add', 'set': 'edit', 'del': 'delete', 'cp': 'copy', 'mv': 'move', 'put': 'commit', 'up': 'update', 'get': 'read'}
 
 
-def call(line):
-    """The call that a line is, as the model takes it, or None."""
-    for name, pattern in LINES:
-        found = pattern.fullmatch(line)
-        if not found:
-            continue
-        words = list(found.groups())
-        data = []
-        if name in ('add', 'edit'):
-            last = words.pop()
-            data = [b'' if last == b'-' else bytes.fromhex(last.decode())]
-        numbers = [int(w) for w in words]
-        if max(numbers) > ALL:
-            return None
-        if name == 'read':
-            return ('read', 1, *numbers)
-        seat, *rest = numbers
-        if seat not in (1, 2):
-            return None
-        if name == 'commit':
-            rest = [rest[0], ALL]
-        if name == 'update':
-            rest = [ALL, rest[0]]
-        return (name, seat, *rest, *data)
-    return None
+def parsed(line):
+    """The call of a line: name, seat, arguments; None if the line is none."""
+    word = line.split(b' ')[0].decode('latin-1')
+    match = LINES[word].fullmatch(line) if word in LINES else None
+    if match is None:
+        return None
+    hexed = match.groups()[2:] if word in ('add', 'set') else ()
+    numbers = [int(g) for g in match.groups()[:len(match.groups()) - len(hexed)]]
+    data = [b'' if h == b'-' else bytes.fromhex(h.decode()) for h in hexed]
+    if any(n > 0xffffffff for n in numbers) or word != 'get' and numbers[0] not in (1, 2):
+        return None
+    if word == 'get':
+        return ('read', 1, *numbers)
+    if word == 'put':
+        return ('commit', *numbers, ALL)
+    if word == 'up':
+        return ('update', numbers[0], ALL, numbers[1])
+    return (CALLS[word], *numbers, *data)
 
 
 def said(answer):
     if answer[0] == 'no':
-        return b'no %d' % answer[1]
-    if answer[0] == 'revision':
-        return b'ok %d' % answer[1]
+        return f'no {answer[1]}'
     if answer[0] == 'bytes':
-        return b'ok ' + (answer[1].hex().encode() or b'-')
-    return b'ok'
+        return f'ok {answer[1].hex() or "-"}'
+    return ' '.join(['ok'] + [str(x) for x in answer[1:]])
 
 
-def output(data):
-    if len(data) > 4096:
+def printed(text, call):
+    if len(text) > 4096:
         return b'?\n'
-    machine = sheets.Machine(32)
-    lines = data.split(b'\n')
+    lines = text.split(b'\n')
     if lines[-1] == b'':
         lines.pop()
-    printed = []
-    for line in lines:
-        c = call(line)
-        printed.append(b'?' if c is None else said(machine.call(*c)))
-    return b''.join(p + b'\n' for p in printed)
+    calls = map(parsed, lines)
+    return ''.join((said(call(*c)) if c else '?') + '\n' for c in calls).encode()

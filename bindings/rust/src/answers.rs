@@ -1,0 +1,175 @@
+//! The answers of the calls, and how they come from the C library's numbers.
+
+use crate::ffi;
+use std::error::Error;
+use std::fmt;
+
+/// Why a call was refused: the lines of document 01's "When the engine says no", with their numbers.
+#[derive(Clone, Copy, Debug, PartialEq, Eq, Hash)]
+#[repr(u32)]
+pub enum Refusal {
+    /// The store's length is no multiple of 512, or its blocks are fewer than 2 or more than 4,096.
+    StoreLength = 1,
+    /// Some store block's check is wrong.
+    StoreCheck = 2,
+    /// The store's blocks aren't the layout of a history.
+    StoreLayout = 3,
+    /// The working copy's length isn't 16,896.
+    CopyLength = 4,
+    /// The working copy has a wrong check or a broken layout.
+    CopyLayout = 5,
+    /// The working copy doesn't fit the store.
+    Unfit = 6,
+    /// A seat, sheet number, length, mask or revision is out of range.
+    Range = 7,
+    /// Nothing is there.
+    Missing = 8,
+    /// The entry to add, or the target of a copy or move, isn't empty.
+    Occupied = 9,
+    /// No chosen entry is pending at commit.
+    NothingPending = 10,
+    /// A chosen entry is out of date at commit.
+    OutOfDate = 11,
+    /// Update meets a conflict.
+    Conflict = 12,
+    /// The commit does not fit in the store's unused blocks.
+    NoRoom = 13,
+}
+
+const REFUSALS: [Refusal; 13] = [
+    Refusal::StoreLength,
+    Refusal::StoreCheck,
+    Refusal::StoreLayout,
+    Refusal::CopyLength,
+    Refusal::CopyLayout,
+    Refusal::Unfit,
+    Refusal::Range,
+    Refusal::Missing,
+    Refusal::Occupied,
+    Refusal::NothingPending,
+    Refusal::OutOfDate,
+    Refusal::Conflict,
+    Refusal::NoRoom,
+];
+
+impl Refusal {
+    /// The document's number, 1 to 13.
+    pub fn number(self) -> u32 {
+        self as u32
+    }
+}
+
+impl fmt::Display for Refusal {
+    fn fmt(&self, f: &mut fmt::Formatter<'_>) -> fmt::Result {
+        let why = match self {
+            Refusal::StoreLength => "the store's length is wrong",
+            Refusal::StoreCheck => "a store block's check is wrong",
+            Refusal::StoreLayout => "the store is not the layout of a history",
+            Refusal::CopyLength => "the working copy's length is wrong",
+            Refusal::CopyLayout => "the working copy has a wrong check or a broken layout",
+            Refusal::Unfit => "the working copy does not fit the store",
+            Refusal::Range => "a number is out of range",
+            Refusal::Missing => "nothing is there",
+            Refusal::Occupied => "the entry is not empty",
+            Refusal::NothingPending => "no chosen entry is pending",
+            Refusal::OutOfDate => "a chosen entry is out of date",
+            Refusal::Conflict => "a chosen entry is a conflict",
+            Refusal::NoRoom => "the store has no room",
+        };
+        write!(f, "refusal {}: {why}", self.number())
+    }
+}
+
+impl Error for Refusal {}
+
+/// The refusal with this number; 0 is none.
+pub fn refused(number: u32) -> Option<Refusal> {
+    (number as usize).checked_sub(1).map(|k| REFUSALS[k])
+}
+
+/// The status of a sheet's entry, with document 01's numbers.
+#[derive(Clone, Copy, Debug, PartialEq, Eq, Hash)]
+#[repr(u32)]
+pub enum Status {
+    /// The entry is empty, and the last tree lacks the sheet.
+    Absent = 0,
+    /// As the last revision has it.
+    UpToDate = 1,
+    /// The seat's bytes differ from the base's.
+    Modified = 2,
+    /// A commit after the base names the sheet.
+    NeedsPatch = 3,
+    /// Both: modified, and a commit after the base names the sheet.
+    NeedsMerge = 4,
+    /// Added.
+    Added = 5,
+    /// Deleted.
+    Deleted = 6,
+    /// Copied.
+    Copied = 7,
+    /// The entry is empty, and the last tree has the sheet.
+    NeedsCheckout = 8,
+}
+
+const STATUSES: [Status; 9] = [
+    Status::Absent,
+    Status::UpToDate,
+    Status::Modified,
+    Status::NeedsPatch,
+    Status::NeedsMerge,
+    Status::Added,
+    Status::Deleted,
+    Status::Copied,
+    Status::NeedsCheckout,
+];
+
+/// The status with this number.
+pub fn status(number: u32) -> Status {
+    STATUSES[number as usize]
+}
+
+/// What a commit did to a sheet.
+#[derive(Clone, Copy, Debug, PartialEq, Eq, Hash)]
+pub enum Action {
+    /// Added it.
+    Add,
+    /// Changed its bytes.
+    Change,
+    /// Deleted it.
+    Delete,
+    /// Made it as a copy.
+    Copy {
+        /// The sheet that was copied.
+        sheet: u32,
+        /// The revision it was copied from.
+        revision: u32,
+    },
+}
+
+/// What log tells of a commit and a sheet.
+#[derive(Clone, Copy, Debug, PartialEq, Eq, Hash)]
+pub struct LogEntry {
+    /// The seat that committed, 1 to 4.
+    pub seat: u32,
+    /// The stamp that the seat gave.
+    pub stamp: u32,
+    /// How many sheets the commit changed, 1 to 32.
+    pub changes: u32,
+    /// What it did to the sheet, if anything.
+    pub action: Option<Action>,
+}
+
+/// A C log entry as an entry or a refusal.
+pub fn logged(entry: ffi::LogEntry) -> Result<LogEntry, Refusal> {
+    if let Some(refusal) = refused(entry.refusal) {
+        return Err(refusal);
+    }
+    let action = match entry.action {
+        0 => None,
+        1 => Some(Action::Add),
+        2 => Some(Action::Change),
+        3 => Some(Action::Delete),
+        _ => Some(Action::Copy { sheet: entry.source_sheet, revision: entry.source_revision }),
+    };
+    Ok(LogEntry { seat: entry.seat, stamp: entry.stamp, changes: entry.changes, action })
+}

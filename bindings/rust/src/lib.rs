@@ -1,0 +1,138 @@
+//! Safe calls of the verified sheet store.
+//!
+//! A *store* is a buffer of 2 to 4,096 blocks of [`BLOCK`] bytes that holds the revisions of one pool. A *working copy* is a buffer of
+//! [`COPY_LEN`] bytes that belongs to a seat, 1 to 4. Both are lent by the caller. Every call checks all that it is handed, finishes on every
+//! input, and either does its work or answers a [`Refusal`] and leaves every buffer unchanged.
+//!
+//! ```
+//! use sheetstore::{self as sheets, Refusal, ALL, BLOCK, COPY_LEN};
+//!
+//! let mut store = vec![0; 32 * BLOCK];
+//! let mut copy = vec![0; COPY_LEN];
+//! sheets::create_store(&mut store)?;
+//! sheets::create_copy(&mut copy, 2)?;
+//!
+//! sheets::add(&store, &mut copy, 5, b"stop after 30 s")?;
+//! let first = sheets::commit(&mut store, &mut copy, 7, ALL)?;
+//! sheets::edit(&store, &mut copy, 5, b"stop after 20 s")?;
+//! sheets::commit(&mut store, &mut copy, 8, ALL)?;
+//!
+//! // Revision 1 is what was committed then; the bytes are a part of the store.
+//! assert_eq!(sheets::read(&store, first, 5)?, b"stop after 30 s");
+//! assert_eq!(sheets::read(&store, 0, 5), Err(Refusal::Missing));
+//! # Ok::<(), Refusal>(())
+//! ```
+//!
+//! The part that [`read`] hands back is borrowed from the store, so the store cannot change while it is in use:
+//!
+//! ```compile_fail,E0502
+//! # let mut store = vec![0; 32 * sheetstore::BLOCK];
+//! # let mut copy = vec![0; sheetstore::COPY_LEN];
+//! let bytes = sheetstore::read(&store, 1, 5).unwrap();
+//! sheetstore::commit(&mut store, &mut copy, 9, sheetstore::ALL).unwrap();
+//! println!("{bytes:?}");
+//! ```
+#![deny(missing_docs)]
+
+mod answers;
+mod ffi;
+
+pub use answers::{Action, LogEntry, Refusal, Status};
+
+/// Bytes of a block.
+pub const BLOCK: usize = 512;
+/// Bytes of a working copy.
+pub const COPY_LEN: usize = 33 * BLOCK;
+/// The mask that chooses every sheet; bit i chooses sheet i.
+pub const ALL: u32 = u32::MAX;
+
+/// A C answer as a value or a refusal.
+fn value(answer: ffi::Answer) -> Result<u32, Refusal> {
+    answers::refused(answer.refusal).map_or(Ok(answer.value), Err)
+}
+
+/// A C answer that carries no value.
+fn done(answer: ffi::Answer) -> Result<(), Refusal> {
+    value(answer).map(|_| ())
+}
+
+/// Makes a fresh store, with no revision. What the buffer held does not matter.
+pub fn create_store(store: &mut [u8]) -> Result<(), Refusal> {
+    // SAFETY: the pointer and the length are those of one slice that is lent for the call, here and in every call below.
+    done(unsafe { ffi::sheets_create_store(store.as_mut_ptr(), store.len()) })
+}
+
+/// Makes a fresh working copy of a seat, with 32 empty entries. What the buffer held does not matter.
+pub fn create_copy(copy: &mut [u8], seat: u32) -> Result<(), Refusal> {
+    done(unsafe { ffi::sheets_create_copy(copy.as_mut_ptr(), copy.len(), seat) })
+}
+
+/// The empty entry of a sheet becomes added, with these bytes.
+pub fn add(store: &[u8], copy: &mut [u8], sheet: u32, bytes: &[u8]) -> Result<(), Refusal> {
+    done(unsafe { ffi::sheets_add(store.as_ptr(), store.len(), copy.as_mut_ptr(), copy.len(), sheet, bytes.as_ptr(), bytes.len()) })
+}
+
+/// Replaces the bytes of a normal, added or copied entry.
+pub fn edit(store: &[u8], copy: &mut [u8], sheet: u32, bytes: &[u8]) -> Result<(), Refusal> {
+    done(unsafe { ffi::sheets_edit(store.as_ptr(), store.len(), copy.as_mut_ptr(), copy.len(), sheet, bytes.as_ptr(), bytes.len()) })
+}
+
+/// A normal entry becomes deleted, an added or copied one empty.
+pub fn delete(store: &[u8], copy: &mut [u8], sheet: u32) -> Result<(), Refusal> {
+    done(unsafe { ffi::sheets_delete(store.as_ptr(), store.len(), copy.as_mut_ptr(), copy.len(), sheet) })
+}
+
+/// The empty entry of sheet `to` becomes a copy of that of sheet `from`.
+pub fn copy_sheet(store: &[u8], copy: &mut [u8], from: u32, to: u32) -> Result<(), Refusal> {
+    done(unsafe { ffi::sheets_copy(store.as_ptr(), store.len(), copy.as_mut_ptr(), copy.len(), from, to) })
+}
+
+/// Copies sheet `from` to sheet `to`, then deletes `from`.
+pub fn move_sheet(store: &[u8], copy: &mut [u8], from: u32, to: u32) -> Result<(), Refusal> {
+    done(unsafe { ffi::sheets_move(store.as_ptr(), store.len(), copy.as_mut_ptr(), copy.len(), from, to) })
+}
+
+/// The pending entries that the mask chooses become the next revision, which is the answer.
+pub fn commit(store: &mut [u8], copy: &mut [u8], stamp: u32, mask: u32) -> Result<u32, Refusal> {
+    value(unsafe { ffi::sheets_commit(store.as_mut_ptr(), store.len(), copy.as_mut_ptr(), copy.len(), stamp, mask) })
+}
+
+/// The entries that the mask chooses come to a revision, unless one of them is a conflict.
+pub fn update(store: &[u8], copy: &mut [u8], mask: u32, revision: u32) -> Result<(), Refusal> {
+    done(unsafe { ffi::sheets_update(store.as_ptr(), store.len(), copy.as_mut_ptr(), copy.len(), mask, revision) })
+}
+
+/// The entries that the mask chooses come back to their base; added and copied ones become empty.
+pub fn revert(store: &[u8], copy: &mut [u8], mask: u32) -> Result<(), Refusal> {
+    done(unsafe { ffi::sheets_revert(store.as_ptr(), store.len(), copy.as_mut_ptr(), copy.len(), mask) })
+}
+
+/// The part of a buffer that a C place names.
+fn part<'a>(place: ffi::Place, store: &'a [u8], copy: &'a [u8]) -> Result<&'a [u8], Refusal> {
+    if let Some(refusal) = answers::refused(place.refusal) {
+        return Err(refusal);
+    }
+    let buffer = if place.buffer == 0 { store } else { copy };
+    Ok(&buffer[place.start..place.start + place.len])
+}
+
+/// The bytes of a sheet at a revision: a part of the store, nothing copied.
+pub fn read(store: &[u8], revision: u32, sheet: u32) -> Result<&[u8], Refusal> {
+    part(unsafe { ffi::sheets_read(store.as_ptr(), store.len(), revision, sheet) }, store, &[])
+}
+
+/// The bytes that a seat sees: its own, a part of the working copy, where the entry is normal, added or copied; otherwise the last
+/// revision's, a part of the store.
+pub fn show<'a>(store: &'a [u8], copy: &'a [u8], sheet: u32) -> Result<&'a [u8], Refusal> {
+    part(unsafe { ffi::sheets_show(store.as_ptr(), store.len(), copy.as_ptr(), copy.len(), sheet) }, store, copy)
+}
+
+/// The status of a sheet's entry.
+pub fn status(store: &[u8], copy: &[u8], sheet: u32) -> Result<Status, Refusal> {
+    value(unsafe { ffi::sheets_status(store.as_ptr(), store.len(), copy.as_ptr(), copy.len(), sheet) }).map(answers::status)
+}
+
+/// What a revision is, and what it did to a sheet.
+pub fn log(store: &[u8], revision: u32, sheet: u32) -> Result<LogEntry, Refusal> {
+    answers::logged(unsafe { ffi::sheets_log(store.as_ptr(), store.len(), revision, sheet) })
+}

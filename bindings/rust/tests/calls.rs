@@ -1,0 +1,172 @@
+//! Every call, every refusal's number, and that read and show hand back parts of the lent buffers.
+
+use sheetstore::{self as sheets, Action, LogEntry, Refusal, Status, ALL, BLOCK, COPY_LEN};
+
+fn store_of(blocks: usize) -> Vec<u8> {
+    let mut store = vec![0x5a; blocks * BLOCK];
+    sheets::create_store(&mut store).unwrap();
+    store
+}
+
+fn copy_of(seat: u32) -> Vec<u8> {
+    let mut copy = vec![0x5a; COPY_LEN];
+    sheets::create_copy(&mut copy, seat).unwrap();
+    copy
+}
+
+/// A store with byte 65 as sheet 5 of revision 1, and the working copy of seat 2, which committed it with stamp 7.
+fn case_input(blocks: usize) -> (Vec<u8>, Vec<u8>) {
+    let (mut store, mut copy) = (store_of(blocks), copy_of(2));
+    sheets::add(&store, &mut copy, 5, b"A").unwrap();
+    assert_eq!(sheets::commit(&mut store, &mut copy, 7, ALL), Ok(1));
+    (store, copy)
+}
+
+/// Writes a block's check anew.
+fn seal(block: &mut [u8]) {
+    let (a, b) = block[..508].iter().fold((0, 0), |(a, b), &x| ((a + x as u32) % 65521, (b + a + x as u32) % 65521));
+    block[508..510].copy_from_slice(&(a as u16).to_le_bytes());
+    block[510..512].copy_from_slice(&(b as u16).to_le_bytes());
+}
+
+/// Where a part starts in a buffer, if it lies in it.
+fn place_in(buffer: &[u8], part: &[u8]) -> Option<usize> {
+    let (outer, inner) = (buffer.as_ptr_range(), part.as_ptr_range());
+    (outer.start <= inner.start && inner.end <= outer.end).then(|| inner.start as usize - outer.start as usize)
+}
+
+#[test]
+fn blocks_are_as_the_document_lays_them_out() {
+    let (store, _) = case_input(4);
+    let checks: Vec<(u16, u16)> =
+        store.chunks(BLOCK).map(|b| (u16::from_le_bytes([b[508], b[509]]), u16::from_le_bytes([b[510], b[511]]))).collect();
+    assert_eq!(checks, [(2, 1015), (69, 34006), (21, 10479), (0, 0)]);
+}
+
+#[test]
+fn read_is_a_part_of_the_store() {
+    let (mut store, mut copy) = case_input(8);
+    sheets::edit(&store, &mut copy, 5, b"").unwrap();
+    assert_eq!(sheets::commit(&mut store, &mut copy, 8, 1 << 5), Ok(2));
+    let (old, new) = (sheets::read(&store, 1, 5).unwrap(), sheets::read(&store, 2, 5).unwrap());
+    assert_eq!((old, new), (&b"A"[..], &b""[..]));
+    assert_eq!(place_in(&store, old), Some(BLOCK + 16));
+    assert_eq!(place_in(&store, new), Some(3 * BLOCK + 16));
+    assert_eq!(sheets::read(&store, 0, 5), Err(Refusal::Missing));
+    assert_eq!(sheets::read(&store, 3, 5), Err(Refusal::Range));
+}
+
+#[test]
+fn show_is_a_part_of_either_buffer() {
+    let (store, mut copy) = case_input(8);
+    sheets::edit(&store, &mut copy, 5, b"mine").unwrap();
+    let own = sheets::show(&store, &copy, 5).unwrap();
+    assert_eq!(own, b"mine");
+    assert_eq!(place_in(&copy, own), Some(6 * BLOCK + 16));
+    sheets::revert(&store, &mut copy, ALL).unwrap();
+    assert_eq!(sheets::show(&store, &copy, 5), Ok(&b"A"[..]));
+    sheets::delete(&store, &mut copy, 5).unwrap();
+    let last = sheets::show(&store, &copy, 5).unwrap();
+    assert_eq!(last, b"A");
+    assert_eq!(place_in(&store, last), Some(BLOCK + 16));
+    assert_eq!(sheets::show(&store, &copy, 6), Err(Refusal::Missing));
+}
+
+#[test]
+fn log_tells_each_action() {
+    let (mut store, mut copy) = case_input(16);
+    sheets::edit(&store, &mut copy, 5, b"B").unwrap();
+    sheets::commit(&mut store, &mut copy, 6, ALL).unwrap();
+    sheets::move_sheet(&store, &mut copy, 5, 6).unwrap();
+    sheets::commit(&mut store, &mut copy, u32::MAX, ALL).unwrap();
+    let entry = |stamp, changes, action| Ok(LogEntry { seat: 2, stamp, changes, action });
+    assert_eq!(sheets::log(&store, 1, 5), entry(7, 1, Some(Action::Add)));
+    assert_eq!(sheets::log(&store, 2, 5), entry(6, 1, Some(Action::Change)));
+    assert_eq!(sheets::log(&store, 3, 5), entry(u32::MAX, 2, Some(Action::Delete)));
+    assert_eq!(sheets::log(&store, 3, 6), entry(u32::MAX, 2, Some(Action::Copy { sheet: 5, revision: 2 })));
+    assert_eq!(sheets::log(&store, 3, 0), entry(u32::MAX, 2, None));
+    assert_eq!(sheets::log(&store, 0, 5), Err(Refusal::Range));
+}
+
+#[test]
+fn status_tells_each_state() {
+    let (mut store, mut two) = case_input(32);
+    let mut one = copy_of(1);
+    let of = |store: &[u8], copy: &[u8], sheet| sheets::status(store, copy, sheet).unwrap();
+    assert_eq!(of(&store, &one, 5), Status::NeedsCheckout);
+    assert_eq!(of(&store, &one, 6), Status::Absent);
+    sheets::update(&store, &mut one, ALL, 1).unwrap();
+    assert_eq!(of(&store, &one, 5), Status::UpToDate);
+    sheets::copy_sheet(&store, &mut one, 5, 6).unwrap();
+    assert_eq!(of(&store, &one, 6), Status::Copied);
+    sheets::add(&store, &mut one, 7, b"").unwrap();
+    assert_eq!(of(&store, &one, 7), Status::Added);
+    sheets::edit(&store, &mut two, 5, b"B").unwrap();
+    assert_eq!(of(&store, &two, 5), Status::Modified);
+    sheets::commit(&mut store, &mut two, 0, ALL).unwrap();
+    assert_eq!(of(&store, &one, 5), Status::NeedsPatch);
+    sheets::edit(&store, &mut one, 5, b"C").unwrap();
+    assert_eq!(of(&store, &one, 5), Status::NeedsMerge);
+    sheets::delete(&store, &mut one, 5).unwrap();
+    assert_eq!(of(&store, &one, 5), Status::Deleted);
+}
+
+/// A call on copies of a store and a working copy.
+type Call<'a> = &'a dyn Fn(&mut Vec<u8>, &mut Vec<u8>) -> Result<(), Refusal>;
+
+#[test]
+fn every_refusal_has_its_number_and_changes_nothing() {
+    let (store, copy) = case_input(4);
+    let refused = |number: u32, call: Call| {
+        let (mut s, mut c) = (store.clone(), copy.clone());
+        assert_eq!(call(&mut s, &mut c).unwrap_err().number(), number);
+        assert!(s == store && c == copy, "refusal {number} changed a buffer");
+    };
+    let commit = |s: &mut [u8], c: &mut [u8]| sheets::commit(s, c, 0, ALL).map(|_| ());
+    refused(1, &|s, c| sheets::add(&s[1..], c, 0, b""));
+    refused(2, &|s, _| {
+        let mut damaged = s.clone();
+        damaged[600] ^= 1;
+        sheets::read(&damaged, 1, 5).map(|_| ())
+    });
+    refused(3, &|s, c| {
+        let mut damaged = s.clone();
+        damaged[2] = 1;
+        seal(&mut damaged[..BLOCK]);
+        sheets::delete(&damaged, c, 5)
+    });
+    refused(4, &|s, c| sheets::revert(s, &mut c[1..], ALL));
+    refused(5, &|s, c| {
+        let mut damaged = c.clone();
+        damaged[0] = 5;
+        sheets::status(s, &damaged, 5).map(|_| ())
+    });
+    refused(6, &|_, c| sheets::edit(&store_of(4), c, 5, b""));
+    refused(7, &|s, c| sheets::add(s, c, 32, b""));
+    refused(7, &|s, c| sheets::add(s, c, 6, &[0; 481]));
+    refused(7, &|s, c| sheets::update(s, c, ALL, 2));
+    refused(7, &|_, c| sheets::create_copy(c, 5));
+    refused(8, &|s, c| sheets::move_sheet(s, c, 6, 7));
+    refused(9, &|s, c| sheets::copy_sheet(s, c, 5, 5));
+    refused(10, &|s, c| commit(s, c));
+    refused(11, &|s, _| {
+        let mut one = copy_of(1);
+        sheets::add(s, &mut one, 5, b"other")?;
+        commit(s, &mut one)
+    });
+    refused(12, &|s, _| {
+        let mut one = copy_of(1);
+        sheets::add(s, &mut one, 5, b"other")?;
+        sheets::update(s, &mut one, ALL, 1)
+    });
+    refused(13, &|s, c| {
+        let mut edited = c.clone();
+        sheets::edit(s, &mut edited, 5, b"B")?;
+        commit(s, &mut edited)
+    });
+}
+
+#[test]
+fn a_refusal_says_its_number() {
+    assert_eq!(Refusal::NoRoom.to_string(), "refusal 13: the store has no room");
+}

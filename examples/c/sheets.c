@@ -1,0 +1,86 @@
+/* Two seats at one store: add, commit, update, read back, and two refusals. Exits 1 at the first answer that is not as expected.
+ *
+ *     rt staticlib sheetstore
+ *     cc -Wall -Wextra -Werror -Iinclude examples/c/sheets.c target/staticlib/libsheetstore.a -o target/sheets && target/sheets
+ */
+#include "sheetstore.h"
+
+#include <stdio.h>
+#include <stdlib.h>
+#include <string.h>
+
+#define BLOCKS 32
+#define ALL_SHEETS UINT32_MAX
+
+static uint8_t store[BLOCKS * SHEETS_BLOCK];
+static uint8_t pump_room[SHEETS_COPY_LEN]; /* the working copy of seat 1 */
+static uint8_t office[SHEETS_COPY_LEN];    /* the working copy of seat 2 */
+
+/* Ends the program unless an answer is as expected. */
+static void expect(const char *what, sheets_answer got, uint32_t refusal, uint32_t value) {
+    if (got.refusal != refusal || got.value != value) {
+        printf("%s: refusal %u, value %u; expected refusal %u, value %u\n", what, got.refusal, got.value, refusal, value);
+        exit(1);
+    }
+    if (refusal != 0)
+        printf("%s: refused, number %u\n", what, refusal);
+    else if (value != 0)
+        printf("%s: done, %u\n", what, value);
+    else
+        printf("%s: done\n", what);
+}
+
+/* Ends the program unless a part of a buffer holds this text. */
+static void expect_text(const char *what, const uint8_t *buffer, sheets_place part, const char *text) {
+    if (part.refusal != 0 || part.len != strlen(text) || memcmp(buffer + part.start, text, part.len) != 0) {
+        printf("%s: refusal %u, %zu bytes; expected \"%s\"\n", what, part.refusal, part.len, text);
+        exit(1);
+    }
+    printf("%s: \"%.*s\"\n", what, (int)part.len, (const char *)buffer + part.start);
+}
+
+static sheets_answer add(uint8_t *copy, uint32_t sheet, const char *text) {
+    return sheets_add(store, sizeof store, copy, SHEETS_COPY_LEN, sheet, (const uint8_t *)text, strlen(text));
+}
+
+static sheets_answer edit(uint8_t *copy, uint32_t sheet, const char *text) {
+    return sheets_edit(store, sizeof store, copy, SHEETS_COPY_LEN, sheet, (const uint8_t *)text, strlen(text));
+}
+
+static sheets_answer commit(uint8_t *copy, uint32_t stamp) {
+    return sheets_commit(store, sizeof store, copy, SHEETS_COPY_LEN, stamp, ALL_SHEETS);
+}
+
+static sheets_answer update(uint8_t *copy, uint32_t revision) {
+    return sheets_update(store, sizeof store, copy, SHEETS_COPY_LEN, ALL_SHEETS, revision);
+}
+
+int main(void) {
+    expect("create the store", sheets_create_store(store, sizeof store), 0, 0);
+    expect("create seat 1's copy", sheets_create_copy(pump_room, sizeof pump_room, 1), 0, 0);
+    expect("create seat 2's copy", sheets_create_copy(office, sizeof office, 2), 0, 0);
+
+    expect("seat 1 adds sheet 5", add(pump_room, 5, "stop after 30 s"), 0, 0);
+    expect("seat 1 commits", commit(pump_room, 100), 0, 1);
+    expect("seat 2 updates to 1", update(office, 1), 0, 0);
+
+    expect("seat 2 edits sheet 5", edit(office, 5, "stop after 20 s"), 0, 0);
+    expect("seat 2 commits", commit(office, 200), 0, 2);
+    expect("seat 1 edits sheet 5 too", edit(pump_room, 5, "stop after 60 s"), 0, 0);
+    expect("status at seat 1: needs merge", sheets_status(store, sizeof store, pump_room, sizeof pump_room, 5), 0, 4);
+    expect("seat 1 commits, out of date", commit(pump_room, 300), 11, 0);
+    expect("seat 1 updates to 2, a conflict", update(pump_room, 2), 12, 0);
+
+    expect_text("sheet 5 at revision 1", store, sheets_read(store, sizeof store, 1, 5), "stop after 30 s");
+    expect_text("sheet 5 at revision 2", store, sheets_read(store, sizeof store, 2, 5), "stop after 20 s");
+    sheets_place own = sheets_show(store, sizeof store, pump_room, sizeof pump_room, 5);
+    expect_text("what seat 1 sees", own.buffer == 1 ? pump_room : store, own, "stop after 60 s");
+
+    sheets_log_entry entry = sheets_log(store, sizeof store, 2, 5);
+    if (entry.refusal != 0 || entry.seat != 2 || entry.stamp != 200 || entry.changes != 1 || entry.action != 2) {
+        printf("log of revision 2: not as committed\n");
+        return 1;
+    }
+    printf("log of revision 2: seat %u, stamp %u, action %u\n", entry.seat, entry.stamp, entry.action);
+    return 0;
+}

@@ -1,0 +1,189 @@
+/* Random calls by four seats, good and damaged buffers, each lent as a piece of memory of its exact size.
+ *
+ *     memory SEED CALLS heap     pieces from malloc, for valgrind and AddressSanitizer to watch
+ *     memory SEED CALLS pages    pieces that end, or start, at a page that cannot be touched; those lent as const lie in pages that cannot be written
+ *
+ * A refused call must leave its buffers as they were. Exits 1, with the seed and the call's number, if one does not. A touch of a byte outside a
+ * piece ends the program.
+ */
+#define _DEFAULT_SOURCE
+#include "sheetstore.h"
+
+#include <stdbool.h>
+#include <stdio.h>
+#include <stdlib.h>
+#include <string.h>
+#include <sys/mman.h>
+
+#define PAGE 4096
+#define MAX_STORE (4097 * SHEETS_BLOCK)
+#define MAX_COPY (SHEETS_COPY_LEN + SHEETS_BLOCK)
+
+static uint64_t state;
+static bool in_pages;
+
+static uint32_t below(uint32_t n) {
+    state ^= state << 13;
+    state ^= state >> 7;
+    state ^= state << 17;
+    return (uint32_t)((state >> 32) % n);
+}
+
+/* ---- pieces of memory */
+
+struct piece {
+    uint8_t *bytes;
+    size_t len;
+    uint8_t *room; /* what to give back */
+    size_t room_len;
+};
+
+/* A piece with these bytes, or with nothing yet. */
+static struct piece lend(const uint8_t *bytes, size_t len, bool to_write) {
+    struct piece p = {.len = len};
+    if (len > MAX_STORE) abort();
+    if (in_pages) {
+        size_t inner = (len + PAGE - 1) / PAGE * PAGE;
+        p.room_len = inner + 2 * PAGE;
+        p.room = mmap(NULL, p.room_len, PROT_NONE, MAP_PRIVATE | MAP_ANONYMOUS, -1, 0);
+        if (p.room == MAP_FAILED) abort();
+        p.bytes = p.room + PAGE + (below(2) ? inner - len : 0);
+        if (inner != 0 && mprotect(p.room + PAGE, inner, PROT_READ | PROT_WRITE) != 0) abort();
+        if (bytes != NULL && len != 0) memcpy(p.bytes, bytes, len);
+        if (inner != 0 && !to_write && mprotect(p.room + PAGE, inner, PROT_READ) != 0) abort();
+    } else {
+        p.room = malloc(len);
+        if (p.room == NULL && len != 0) abort();
+        p.bytes = p.room;
+        if (bytes != NULL && len != 0) memcpy(p.bytes, bytes, len);
+    }
+    return p;
+}
+
+static void give_back(struct piece p) {
+    if (in_pages)
+        munmap(p.room, p.room_len);
+    else
+        free(p.room);
+}
+
+/* ---- the buffers between calls */
+
+static uint8_t store[MAX_STORE], copies[5][MAX_COPY], hurt_store[MAX_STORE], hurt_copy[MAX_COPY];
+static size_t store_len;
+static unsigned long answered[14];
+
+static void seal(uint8_t *block) {
+    uint32_t a = 0, b = 0;
+    for (int i = 0; i < 508; i++) {
+        a = (a + block[i]) % 65521;
+        b = (b + a) % 65521;
+    }
+    block[508] = (uint8_t)a, block[509] = (uint8_t)(a >> 8), block[510] = (uint8_t)b, block[511] = (uint8_t)(b >> 8);
+}
+
+static void damage(uint8_t *buffer, size_t *len) {
+    if (below(6) == 0) {
+        *len = below(2) ? *len - 1 - below(512) : *len + 1 + below(512);
+        return;
+    }
+    size_t blocks = *len / SHEETS_BLOCK, near = blocks < 8 ? blocks : 8;
+    uint8_t *block = buffer + SHEETS_BLOCK * below((uint32_t)(below(2) ? near : blocks));
+    if (below(4) == 0)
+        block[1] = 1, block[4] = (uint8_t)(1 + below(4)); /* in an entry: normal, with another base */
+    else
+        block[below(2) ? below(32) : below(512)] = (uint8_t)below(256);
+    if (below(8) != 0) seal(block);
+}
+
+/* One call on pieces of memory with these buffers; what it leaves goes back into them. Answers whether a refused call changed one. */
+static bool call(uint8_t *store_at, size_t store_size, uint8_t *copy_at, size_t copy_size) {
+    static const uint32_t some[] = {0, 1, 2, 3, 5, 31};
+    uint32_t sheet = below(8) ? some[below(6)] : below(34), other = below(8) ? some[below(6)] : below(34);
+    uint32_t mask = below(3) ? UINT32_MAX : below(2) ? 1u << sheet % 32 : below(4) * 0x01234567u, revision = below(below(2) ? 4 : 40);
+    uint32_t kind = below(18);
+    bool commits = kind >= 12;
+    uint8_t text[481];
+    size_t text_len = below(16) == 0 ? 480 + below(2) : below(4);
+    memset(text, (int)below(256), sizeof text);
+
+    struct piece s = lend(store_at, store_size, commits), c = lend(copy_at, copy_size, kind < 8 || commits), t = lend(text, text_len, false);
+    uint32_t refusal;
+    switch (kind) {
+    case 0: case 1: refusal = sheets_add(s.bytes, s.len, c.bytes, c.len, sheet, t.bytes, t.len).refusal; break;
+    case 2: case 3: refusal = sheets_edit(s.bytes, s.len, c.bytes, c.len, sheet, t.bytes, t.len).refusal; break;
+    case 4: refusal = sheets_delete(s.bytes, s.len, c.bytes, c.len, sheet).refusal; break;
+    case 5: refusal = below(2) ? sheets_copy(s.bytes, s.len, c.bytes, c.len, sheet, other).refusal
+                               : sheets_move(s.bytes, s.len, c.bytes, c.len, sheet, other).refusal; break;
+    case 6: refusal = sheets_update(s.bytes, s.len, c.bytes, c.len, mask, revision).refusal; break;
+    case 7: refusal = sheets_revert(s.bytes, s.len, c.bytes, c.len, mask).refusal; break;
+    case 8: refusal = sheets_status(s.bytes, s.len, c.bytes, c.len, sheet).refusal; break;
+    case 9: refusal = sheets_log(s.bytes, s.len, revision, sheet).refusal; break;
+    case 10: case 11: {
+        sheets_place p = kind == 10 ? sheets_read(s.bytes, s.len, revision, sheet) : sheets_show(s.bytes, s.len, c.bytes, c.len, sheet);
+        struct piece in = p.buffer == 0 ? s : c;
+        if (p.start > in.len || p.len > in.len - p.start) return true;
+        for (size_t i = 0; i < p.len; i++) state += in.bytes[p.start + i]; /* every byte of the part can be read */
+        refusal = p.refusal;
+        break;
+    }
+    default: refusal = sheets_commit(s.bytes, s.len, c.bytes, c.len, below(UINT32_MAX), mask).refusal;
+    }
+    answered[refusal]++;
+    bool wrong = refusal != 0 && (memcmp(s.bytes, store_at, s.len) != 0 || memcmp(c.bytes, copy_at, c.len) != 0);
+    memcpy(store_at, s.bytes, s.len);
+    memcpy(copy_at, c.bytes, c.len);
+    give_back(s), give_back(c), give_back(t);
+    return wrong;
+}
+
+/* Fresh buffers, made in pieces that hold nothing yet. */
+static bool fresh(size_t blocks) {
+    store_len = blocks * SHEETS_BLOCK;
+    struct piece s = lend(NULL, store_len, true);
+    bool wrong = sheets_create_store(s.bytes, s.len).refusal != 0;
+    memcpy(store, s.bytes, s.len);
+    give_back(s);
+    for (uint32_t seat = 1; seat <= 4; seat++) {
+        struct piece c = lend(NULL, SHEETS_COPY_LEN, true);
+        wrong |= sheets_create_copy(c.bytes, c.len, seat).refusal != 0;
+        memcpy(copies[seat], c.bytes, c.len);
+        give_back(c);
+    }
+    return wrong;
+}
+
+int main(int argc, char **argv) {
+    if (argc != 4) {
+        fprintf(stderr, "usage: memory SEED CALLS heap|pages\n");
+        return 2;
+    }
+    static const size_t sizes[] = {2, 3, 4, 8, 32, 64, 65, 200, 4096};
+    unsigned long seed = strtoul(argv[1], NULL, 10), count = strtoul(argv[2], NULL, 10);
+    state = 0x9e3779b97f4a7c15u * (seed + 1);
+    in_pages = strcmp(argv[3], "pages") == 0;
+    for (unsigned long k = 0; k < count; k++) {
+        bool wrong = false;
+        if (k % 200 == 0) wrong |= fresh(sizes[below(64) == 0 ? 8 : below(8)]);
+        uint8_t *copy = copies[1 + below(4)];
+        if (below(4) == 0) {
+            size_t s = store_len, c = SHEETS_COPY_LEN;
+            memcpy(hurt_store, store, s);
+            memcpy(hurt_copy, copy, c);
+            if (below(2)) damage(hurt_store, &s);
+            if (below(2)) damage(hurt_copy, &c);
+            wrong |= call(hurt_store, s, hurt_copy, c);
+        } else {
+            wrong |= call(store, store_len, copy, SHEETS_COPY_LEN);
+        }
+        if (wrong) {
+            printf("a buffer is not as it should be: seed %lu, call %lu\n", seed, k);
+            return 1;
+        }
+    }
+    printf("%lu calls: done", count);
+    printf(" %lu; refused", answered[0]);
+    for (int n = 1; n < 14; n++) printf("%s %d: %lu", n == 1 ? "" : ",", n, answered[n]);
+    printf("\n");
+    return 0;
+}

@@ -1,0 +1,119 @@
+"""Acceptance in plain Python, made apart from the engine: which of refusals 1 to 6 comes first for two buffers, or 0."""
+from layout import BLOCK, COPY_LEN, commit_block, content, entry_block, entry_of, label, sealed, two_at
+from sheets import ADD, CHANGE, COPY, DELETE
+
+BLANK = bytes(BLOCK)
+
+
+def cut(buffer):
+    return [bytes(buffer[k:k + BLOCK]) for k in range(0, len(buffer), BLOCK)]
+
+
+def checked(blocks):
+    return all(b == sealed(b[:508]) for b in blocks)
+
+
+def held(block):
+    """The bytes of a content block."""
+    return block[16:16 + two_at(block, 2)]
+
+
+def next_tree(blocks, block, trees, contents):
+    """The tree after a commit block, or None if the block breaks a rule. Trees go from sheet to content block number."""
+    revision, m, seat = len(trees), two_at(block, 2), block[6]
+    lines = [block[k:k + 8] for k in range(16, 16 + 8 * m, 8)]
+    if not 1 <= m <= 32 or not 1 <= seat <= 4:
+        return None
+    if block != commit_block(revision, seat, int.from_bytes(block[8:12], 'little'), lines):
+        return None
+    before, after, named, own = trees[-1], dict(trees[-1]), set(), []
+    for l in lines:
+        sheet, action, point, source_sheet, source = l[0], l[1], two_at(l, 2), l[4], two_at(l, 6)
+        if sheet > 31 or sheet in named or l[5] != 0 or (sheet in before) != (action in (CHANGE, DELETE)):
+            return None
+        named.add(sheet)
+        if action != COPY and (source_sheet, source) != (0, 0):
+            return None
+        if action == DELETE:
+            if point != 0:
+                return None
+            del after[sheet]
+            continue
+        if action == COPY:
+            if not 1 <= source < revision or source_sheet not in trees[source]:
+                return None
+            used = trees[source][source_sheet]
+            if point in contents and held(blocks[point]) == held(blocks[used]):
+                return None
+            if point not in contents and point != used:
+                return None
+        elif action not in (ADD, CHANGE) or point not in contents:
+            return None
+        if point in contents:
+            own.append(point)
+        after[sheet] = point
+    return after if sorted(own) == contents else None
+
+
+def trees_of(blocks):
+    """The tree of every revision, or None if the blocks aren't the layout of a history."""
+    if blocks[0] != label():
+        return None
+    trees, contents = [{}], []
+    for number, b in enumerate(blocks[1:], 1):
+        if b == BLANK:
+            return trees if not contents and all(x == BLANK for x in blocks[number:]) else None
+        if b[0] == 2:
+            if two_at(b, 2) > 480 or b != content(len(trees), held(b)):
+                return None
+            contents.append(number)
+        elif b[0] == 3:
+            tree = next_tree(blocks, b, trees, contents)
+            if tree is None:
+                return None
+            trees.append(tree)
+            contents = []
+        else:
+            return None
+    return trees if not contents else None
+
+
+def store_refusal(store):
+    """The first of 1 to 3 that holds, or 0, and the trees of an accepted store."""
+    if len(store) % BLOCK or not 2 <= len(store) // BLOCK <= 4096:
+        return 1, None
+    blocks = cut(store)
+    if not checked(blocks):
+        return 2, None
+    trees = trees_of(blocks)
+    return (3, None) if trees is None else (0, trees)
+
+
+def entry_lawful(block):
+    if block[0] != 5 or block[1] > 4 or two_at(block, 2) > 480 or block[6] > 31:
+        return False
+    entry = entry_of(block)
+    if entry[0] in ('normal', 'deleted') and entry[1] < 1 or entry[0] == 'copied' and entry[1][1] < 1:
+        return False
+    return block == entry_block(entry)
+
+
+def fits(sheet, entry, trees):
+    if entry[0] in ('normal', 'deleted'):
+        return entry[1] < len(trees) and sheet in trees[entry[1]]
+    if entry[0] == 'copied':
+        return entry[1][1] < len(trees) and entry[1][0] in trees[entry[1][1]]
+    return True
+
+
+def refusal(store, copy=None):
+    """The first of 1 to 6 that holds for a call that takes the store, or the store and the copy; 0 for none."""
+    number, trees = store_refusal(store)
+    if number or copy is None:
+        return number
+    if len(copy) != COPY_LEN:
+        return 4
+    blocks = cut(copy)
+    if not checked(blocks) or not 1 <= blocks[0][1] <= 4 or blocks[0] != sealed([4, blocks[0][1]]) or not all(map(entry_lawful, blocks[1:])):
+        return 5
+    return 0 if all(fits(i, entry_of(b), trees) for i, b in enumerate(blocks[1:])) else 6
