@@ -7,7 +7,7 @@ use native.Mathlib.Nat.{add-sub-cancel-left}
 use native.Mathlib.Omega.{arith}
 use borrow.Author.Needs.{needs}
 use lib.ListN.{drop, length-take, take}
-use Rattle.engine.specs.Place.{Inside}
+use Rattle.inner.specs.Place.{Inside}
 use Rattle.model.specs.Calls.{Place, heard, readCall}
 use Rattle.model.specs.Machine.{bytes}
 use Rattle.model.specs.Types.{placeOf}
