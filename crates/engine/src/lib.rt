@@ -1,25 +1,16 @@
 // Every call of document 01, total: it checks what it is handed in the document's order, and either does its work or answers the refusal and leaves every buffer unchanged.
 // Each promise is one equation with the call's meaning in crates/model/specs/Calls.antt.
-ghost use mathlib.Core.Bool.{_||_};
 ghost use mathlib.Core.List.{[]};
 ghost use mathlib.Core.Path.{_≡_};
-ghost use lib.Dec.{ltb};
-ghost use Rattle.entries.specs.View.{Fitting};
 ghost use Rattle.model.specs.Calls.{addCall, commitCall, copyCall, createCopy, createStore, deleteCall, editCall, logCall, moveCall, out, partOf, readPlace, revertCall, showPlace, sizeCondition, statusCall, updateCall};
-ghost use Rattle.model.specs.Refusals.{noSheet};
 ghost use Rattle.model.specs.Types.{answerOf, createdAs, numberOf};
-ghost use Rattle.store.specs.Opened.{openOf};
 ghost use Rattle.store.specs.declared.Opened.the-variants.{Open};
 ghost use Rattle.engine.specs.Part.{PartAt, ShownAt};
 ghost use Rattle.inner.specs.Place.{Located};
 use entries::Checked;
-use entries::View;
 use model::Answer;
 use model::Place;
 use model::Refusal;
-use model::Span;
-use model::State;
-use store::Header;
 use store::Opened;
 
 // ---- create

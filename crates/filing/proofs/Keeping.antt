@@ -1,7 +1,7 @@
 -- The store's numbers after the inner commit: refused they stay, and where it is done the blocks in use and the last revision have grown.
 -- Assumes nothing.
 use Prim.Native.Nat.{_+_, _<_, _^_, ℕ}
-use mathlib.Core.List.{[], _++_, _∷_}
+use mathlib.Core.List.{[], _∷_}
 use mathlib.Core.Option.{Option, none, some}
 use mathlib.Core.Path.{_∙_, _≡_, ap, subst, sym}
 use native.Mathlib.Omega.{arith}
