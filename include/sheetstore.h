@@ -17,6 +17,7 @@ extern "C" {
 
 #define SHEETS_BLOCK 512
 #define SHEETS_COPY_LEN 16896
+#define SHEETS_RECORD_LEN 512
 
 /* refusal 0: done; value: a commit's revision, a status, else 0 */
 typedef struct {
@@ -56,6 +57,13 @@ sheets_place sheets_read(const uint8_t *store, size_t store_len, uint32_t revisi
 sheets_place sheets_show(const uint8_t *store, size_t store_len, const uint8_t *copy, size_t copy_len, uint32_t sheet);
 sheets_answer sheets_status(const uint8_t *store, size_t store_len, const uint8_t *copy, size_t copy_len, uint32_t sheet);
 sheets_log_entry sheets_log(const uint8_t *store, size_t store_len, uint32_t revision, uint32_t sheet);
+
+/* A list of calls. The script has a record of 512 bytes for each call, copies are the working copies of seats 1 to 4 side by
+ * side, 67,584 bytes, and answers has room for a record of 512 bytes for each call. The five buffers are checked once. Refused
+ * (1 to 6 as for any call, the copies in order; 7 for a copy of another seat, a bad record or fewer answers than calls), nothing
+ * is changed. The records are laid out in docs/LAYOUT.md. */
+sheets_answer sheets_replay(const uint8_t *script, size_t script_len, uint8_t *store, size_t store_len, uint8_t *copies,
+                            size_t copies_len, uint8_t *answers, size_t answers_len);
 
 #ifdef __cplusplus
 }

@@ -3,17 +3,11 @@
 use Prim.Native.Nat.{ℕ, suc, _+_, _*_, _/_, _%_, _≤_}
 use mathlib.Core.Path.{_≡_, _∙_}
 use mathlib.Core.List.{List}
-use native.Mathlib.Numerals.{add-one}
+use native.Mathlib.Numerals.{add-one, add-three, add-two}
 use native.Mathlib.Omega.{arith}
 use lib.ListN.{length, getD, set, List·getD-eq-default}
 use lib.Seq.{set-out}
 use Rattle.block.specs.Field.{twoAt, fourAt, withTwo, withFour}
-
-add-two : (k : ℕ) → k + 2 ≡ suc (suc k)
-add-two k = omega arith
-
-add-three : (k : ℕ) → k + 3 ≡ suc (suc (suc k))
-add-three k = omega arith
 
 module _ (l : List ℕ) (k : ℕ) where
   pub two-is : {x y : ℕ} → x ≡ getD l k 0 → y ≡ getD l (k + 1) 0 → x + 256 * y ≡ twoAt l k

@@ -1,14 +1,14 @@
--- A block as a part of a buffer: read, put back, and left alone.
+-- A block as a part of a buffer: read, put back, and left alone; and its first 16 bytes one by one.
 -- Assumes nothing.
-use Prim.Native.Nat.{ℕ, _+_, _-_, _*_, _/_, _≤_, _<_, min}
-use mathlib.Core.Path.{_≡_, sym, ap, _∙_}
-use mathlib.Core.List.{List, _++_, append-assoc}
+use Prim.Native.Nat.{ℕ, suc, _+_, _-_, _*_, _/_, _≤_, _<_, min}
+use mathlib.Core.Path.{_≡_, refl, sym, ap, _∙_}
+use mathlib.Core.List.{List, _++_, _∷_, append-assoc}
 use mathlib.Core.Logic.{inl, inr}
 use native.Mathlib.Omega.{arith}
 use borrow.Author.Tests.{lt-ltb, le-ltb}
 use borrow.Rule.Slice.PartMut.{putMid}
-use lib.ListN.{length, take, drop, length-append, length-take, length-drop, take-append-drop}
-use lib.Seq.{length-take-le, take-append-le, drop-append-le, drop-append-add, drop-drop}
+use lib.ListN.{length, getD, take, drop, length-append, length-take, length-drop, take-append-drop}
+use lib.Seq.{length-take-le, take-append-le, drop-append-le, drop-append-add, drop-cons, drop-drop}
 use Rattle.block.specs.Check.{sealOf}
 use Rattle.block.specs.Buffer.{blockAt, withBlock, sealAt}
 use Rattle.block.proofs.Says.{lt-or-ge}
@@ -77,3 +77,14 @@ put-leaves l b i j h e ne =
 
     whole : (b : List ℕ) → length b ≡ 512 → length (p ++ b) ≡ 512 * j + 512
     whole b e = omega (arith, length-append p b, length-take-le (512 * j) l (omega arith))
+
+-- the first 16 bytes one by one
+pub first-sixteen : (l : List ℕ) → 16 ≤ length l
+    → l ≡ getD l 0 0 ∷ getD l 1 0 ∷ getD l 2 0 ∷ getD l 3 0 ∷ getD l 4 0 ∷ getD l 5 0 ∷ getD l 6 0 ∷ getD l 7 0
+    ∷ getD l 8 0 ∷ getD l 9 0 ∷ getD l 10 0 ∷ getD l 11 0 ∷ getD l 12 0 ∷ getD l 13 0 ∷ getD l 14 0 ∷ getD l 15 0 ∷ drop 16 l
+first-sixteen l h =
+    at 0 (omega arith) (at 1 (omega arith) (at 2 (omega arith) (at 3 (omega arith) (at 4 (omega arith) (at 5 (omega arith) (at 6 (omega arith) (at 7 (omega arith)
+    (at 8 (omega arith) (at 9 (omega arith) (at 10 (omega arith) (at 11 (omega arith) (at 12 (omega arith) (at 13 (omega arith) (at 14 (omega arith) (at 15 (omega arith) refl)))))))))))))))
+  where
+    at : (j : ℕ) → j < length l → {r : List ℕ} → drop (suc j) l ≡ r → drop j l ≡ getD l j 0 ∷ r
+    at j g e = drop-cons l j 0 g ∙ ap (λ (x : List ℕ). getD l j 0 ∷ x) e

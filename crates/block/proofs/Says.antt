@@ -127,15 +127,16 @@ pub is-true : (b : Bool) → T b → b ≡ true
 is-true true t = refl
 is-true false t = absurd t
 
+-- two tests of which each passes where the other does are equal
+pub bool-alike : (a b : Bool) → (T a → T b) → (T b → T a) → a ≡ b
+bool-alike true true f g = refl
+bool-alike true false f g = absurd (f tt)
+bool-alike false true f g = absurd (g tt)
+bool-alike false false f g = refl
+
 -- two tests that say the same are equal; the test itself from what it says
 pub says-alike : {a b : Bool} {P Q : Type 0} → Says a P → Says b Q → (P → Q) → (Q → P) → a ≡ b
-says-alike {a} {b} s r f g = go a b (λ t. r .so-true (f (s .true-so t))) (λ t. s .so-true (g (r .true-so t)))
-  where
-    go : (x y : Bool) → (T x → T y) → (T y → T x) → x ≡ y
-    go true true f g = refl
-    go true false f g = absurd (f tt)
-    go false true f g = absurd (g tt)
-    go false false f g = refl
+says-alike {a} {b} s r f g = bool-alike a b (λ t. r .so-true (f (s .true-so t))) (λ t. s .so-true (g (r .true-so t)))
 
 pub says-true : {b : Bool} {P : Type 0} → Says b P → P → b ≡ true
 says-true {b} s p = is-true b (s .so-true p)

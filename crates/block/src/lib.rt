@@ -1,7 +1,7 @@
 // Blocks of 512 bytes: fields, the two sums, check and seal. Every function is total: a byte past the end reads as 0 and is not written, and a block that is
 // not whole is not sealed.
 ghost use mathlib.Core.Path.{_≡_};
-ghost use Prim.Native.Nat.{ℕ, _-_, _<_};
+ghost use Prim.Native.Nat.{_-_, _<_};
 ghost use lib.ListN.{getD, replicate, set, take};
 ghost use Rattle.block.specs.Field.{twoAt, fourAt, withTwo, withFour};
 ghost use Rattle.block.specs.Check.{sums, sealed, sealOf, isZero};

@@ -13,22 +13,19 @@ use borrow.Author.Tests.{le-ltb}
 use denote.Ref.{RefT, now}
 use lib.Dec.{ltb}
 use lib.ListN.{drop, take}
-use Rattle.model.specs.Calls.{Place, logCall, partOf, readPlace, storeConditions}
+use Rattle.model.specs.Calls.{Place, logCall, partOf, readPlace}
 use Rattle.model.specs.Demand2.{LaidStore}
 use Rattle.model.specs.History.{Bytes, History, commitAt, last, present, sheet}
 use Rattle.model.specs.Machine.{logOf}
 use Rattle.model.specs.Refusals.{noSheet}
-use Rattle.model.specs.Store.{Holds, blockCount, blockUsed, checked, lawful, storeHistory, usedOf}
+use Rattle.model.specs.Store.{Holds, blockCount, blockUsed, storeHistory, usedOf}
 use Rattle.model.specs.Types.{answerOf}
 use Rattle.model.specs.declared.Answer.{Answer}
-use Rattle.laws.proofs.Accepted.{is-T}
-use Rattle.laws.proofs.Conditions.{clear}
 use Rattle.laws.proofs.Demand2.{demand-two}
 use Rattle.laws.proofs.Places.{heard-block}
-use Rattle.laws.proofs.Store.{accepted-holds}
+use Rattle.laws.proofs.Store.{taken-holds}
 use Rattle.inner.proofs.Looking.{beyond-last, log-there, read-found}
 use Rattle.search.proofs.Finding.{block-lacks, open-asked}
-use Rattle.search.proofs.Revisions.{passed}
 use Rattle.store.proofs.Opening.{accepted-open, open-accepted}
 use Rattle.store.specs.Opened.{openOf}
 use Rattle.store.specs.declared.Header.{Header}
@@ -101,10 +98,7 @@ module _ (store : Bytes) (e : openOf store ≡ Open (headOf store)) (R i : ℕ) 
 
   module _ (b : Bytes) (s : sheet (storeHistory store) R i ≡ some b) where
     held : Holds (blockCount store) store (storeHistory store)
-    held =
-        let c = clear (storeConditions store) (open-accepted store (headOf store) e .0) in
-        accepted-holds (blockCount store) store (passed store (blockCount store) (usedOf store) (open-asked store (headOf store) e) .whole)
-        (is-T (checked (blockCount store) store) (c .1 .0)) (is-T (lawful (blockCount store) store) (c .1 .1 .0))
+    held = taken-holds store (open-accepted store (headOf store) e .0)
 
     used : blockUsed store R i ≡ 0 → ⊥
     used z =

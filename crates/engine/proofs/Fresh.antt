@@ -1,13 +1,11 @@
 -- A store of zeros with the label sealed in it is the fresh store; and what create answers.
 -- Assumes nothing.
-use Prim.Native.Nat.{_%_, _*_, _+_, _-_, _≤_, suc, zero, ℕ}
-use mathlib.Core.Bool.{Bool, _||_, cond, false, not, true}
+use Prim.Native.Nat.{_*_, _+_, _-_, _≤_, suc, zero, ℕ}
+use mathlib.Core.Bool.{Bool, cond, false, true}
 use mathlib.Core.List.{List, _++_, append-nil}
 use mathlib.Core.Option.{none, some}
 use mathlib.Core.Path.{_∙_, _≡_, ap, ap₂, refl, sym}
 use native.Mathlib.Omega.{arith}
-use borrow.Author.Tests.{eqb-true, ltb-false}
-use lib.Dec.{eqb, ltb}
 use lib.ListN.{drop-of-length-le, length, length-append, length-replicate, replicate, replicate-append-replicate, set}
 use lib.Seq.{drop-at, set-append-left, take-at}
 use Rattle.block.proofs.Parts.{seal-at-is}
@@ -24,7 +22,7 @@ use Rattle.model.specs.Store.{blockCount}
 use Rattle.model.specs.Types.{createdAs}
 use Rattle.model.specs.declared.Answer.the-variants.{Done, Refused}
 use Rattle.model.specs.declared.Refusal.the-variants.{StoreLength}
-use Rattle.laws.proofs.Rows.{not-false, or-false}
+use Rattle.laws.proofs.Conditions.{sized-so}
 
 -- zeros written over all bytes
 pub all-zero : (l : List ℕ) → written 0 (replicate (length l - 0) 0) l ≡ replicate (length l) 0
@@ -76,8 +74,6 @@ create-refused l e = sym (ap (λ (t : Bool). createBy (cond t (some 1) none) l (
 pub create-done : (l m : Bytes) → sizeCondition l .holds ≡ false → m ≡ sealAt (set (set (replicate (length l) 0) 0 1) 1 1) 0 → createdAs Done m ≡ createStore l
 unfolding createStore
 create-done l m e q =
-    let p = or-false (not (eqb (length l % 512) 0)) (ltb (blockCount l) 2 || ltb 4_096 (blockCount l)) e in
-    let z : length l % 512 ≡ 0 = eqb-true (length l % 512) 0 (not-false (eqb (length l % 512) 0) (p .0)) in
-    let w : 2 ≤ blockCount l = ltb-false (blockCount l) 2 (or-false (ltb (blockCount l) 2) (ltb 4_096 (blockCount l)) (p .1) .0) in
-    ap (createdAs Done) (q ∙ fresh-bytes (blockCount l) (length l) (omega (arith, z)) (omega (arith, w)))
+    let p = sized-so l e in
+    ap (createdAs Done) (q ∙ fresh-bytes (blockCount l) (length l) (p .0) (omega (arith, p .1)))
     ∙ sym (ap (λ (t : Bool). createBy (cond t (some 1) none) l (freshStore (blockCount l))) e)

@@ -6,7 +6,7 @@ use mathlib.Core.List.{List, [], _++_, _∷_}
 use mathlib.Core.Option.{Option, none, some}
 use mathlib.Core.Path.{_∙_, _≡_, ap, refl, subst, sym}
 use native.Mathlib.Omega.{arith}
-use borrow.Author.Tests.{eq-eqb, eqb-true}
+use borrow.Author.Tests.{eq-eqb, eqb-true, not-false}
 use lib.Dec.{eqb}
 use lib.ListN.{length}
 use Rattle.block.proofs.Says.{is-true}
@@ -21,9 +21,8 @@ use Rattle.model.specs.Types.{numberOf}
 use Rattle.model.specs.WorkCopy.{copyOk, entriesOf, seatOf}
 use Rattle.model.specs.declared.Refusal.{Refusal}
 use Rattle.model.specs.declared.Refusal.the-variants.{CopyLayout, CopyLength, StoreCheck, StoreLayout, StoreLength, Unfit}
-use Rattle.laws.proofs.Accepted.{is-T}
 use Rattle.laws.proofs.Conditions.{clear, clear-first, clear-split, none-holds}
-use Rattle.laws.proofs.Rows.{not-false}
+use Rattle.laws.proofs.Rows.{is-T}
 use Rattle.entries.specs.View.{Fitting, Viewed, checkOf, checkedBy, innerOut, viewOf}
 use Rattle.entries.specs.declared.Checked.the-variants.{Ready, Refused}
 use Rattle.entries.specs.declared.View.{View}

@@ -1,25 +1,22 @@
 -- Every call on buffers that fit, refused or done, leaves buffers that fit, with the numbers that the store then states.
 -- Assumes nothing.
-use Prim.Native.Nat.{_*_, ℕ}
+use Prim.Native.Nat.{ℕ}
 use mathlib.Core.Option.{Option, none, some}
 use mathlib.Core.Path.{_∙_, _≡_, ap, refl, subst, sym}
-use native.Mathlib.Omega.{arith}
 use lib.ListN.{length}
-use Rattle.model.specs.Blocks.{fieldsOf}
 use Rattle.model.specs.Calls.{Out, call, copyConditions, sideIn, storeConditions}
 use Rattle.model.specs.History.{Bytes, last}
 use Rattle.model.specs.Machine.{Call, Side}
 use Rattle.model.specs.Refusals.{conditions, firstOf}
 use Rattle.model.specs.Run.{Typed, sideBy, sideStep}
 use Rattle.model.specs.Shows.{Accepted, Seen}
-use Rattle.model.specs.Store.{blockCount, blocksOf, front, historyOf, storeHistory, usedOf}
+use Rattle.model.specs.Store.{blockCount, blocksOf, front, storeHistory, usedOf}
 use Rattle.model.specs.WorkCopy.{seatOf}
 use Rattle.laws.proofs.Accepted.{accepted-call, stays-accepted}
 use Rattle.laws.proofs.Conditions.{clear, clear-first}
 use Rattle.laws.proofs.Steps.{same-seat}
-use Rattle.laws.proofs.Store.{holds-accepted}
-use Rattle.laws.proofs.WorkCopy.{holds-copy, length-joined}
-use Rattle.laws.proofs.Writing.{holds-blocks}
+use Rattle.laws.proofs.Store.{count-held, history-held}
+use Rattle.laws.proofs.WorkCopy.{holds-copy}
 use Rattle.entries.proofs.Checking.{check-ready, fitting-accepted}
 use Rattle.entries.specs.View.{Fitting, checkOf, checkedBy, viewOf}
 use Rattle.entries.specs.declared.View.{View}
@@ -28,12 +25,10 @@ use Rattle.entries.specs.declared.View.{View}
 pub seen-numbers : (N : ℕ) (store copy : Bytes) (d : Side) → Seen N store copy d
     → (blockCount store ≡ N) × (usedOf store ≡ d .used) × (storeHistory store ≡ d .history)
 seen-numbers N store copy d E =
-    let B = holds-blocks N store (d .history) (E .stored .holds) in
-    let l : length store ≡ N * 512 = ap length (sym (B .bytes)) ∙ length-joined fieldsOf (blocksOf N store) ∙ ap (λ (n : ℕ). n * 512) (B .count) in
-    let c : blockCount store ≡ N = omega (arith, l) in (
+    let c = count-held N store (d .history) (E .stored .holds) in (
       c,
       ap (λ (n : ℕ). length (front (blocksOf n store))) c ∙ E .stored .uses,
-      ap (λ (n : ℕ). historyOf n store) c ∙ holds-accepted N store (d .history) (E .stored .holds) .2,
+      history-held N store (d .history) (E .stored .holds),
     )
 
 -- buffers that no line from 1 to 6 refuses fit

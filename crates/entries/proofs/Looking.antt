@@ -1,10 +1,10 @@
 -- What a search in an accepted store says of the history: whether a tree has a sheet, and which commit names it last.
 -- Assumes nothing.
-use Prim.Native.Nat.{_*_, _<_, _≤_, ℕ}
+use Prim.Native.Nat.{_<_, _≤_, ℕ}
 use mathlib.Core.Bool.{false, not}
 use mathlib.Core.List.{List, [], _∷_}
 use mathlib.Core.Logic.{inl, inr}
-use mathlib.Core.Option.{Option, none, some}
+use mathlib.Core.Option.{none, some}
 use mathlib.Core.Path.{_∙_, _≡_, ap, refl, subst, sym}
 use native.Mathlib.Omega.{arith}
 use borrow.Author.Tests.{eq-eqb, le-leb, lt-leb, ne-eqb}
@@ -12,21 +12,18 @@ use lib.Dec.{eqb, leb, ltb}
 use lib.ListN.{List·getD-eq-default, drop, length, take}
 use Rattle.block.proofs.Says.{eq-or}
 use Rattle.model.specs.Blocks.{bytesAt}
-use Rattle.model.specs.Calls.{storeConditions}
 use Rattle.model.specs.Fitting.{has}
 use Rattle.model.specs.History.{Bytes, Change, History, Tree, applied, last, namedAfter, namer, newest, present, sheet, tree, treeFrom, tree₀}
 use Rattle.model.specs.Machine.{bytes}
-use Rattle.model.specs.Store.{blockCount, blockUsed, checked, lawful, storeBlocks, storeHistory}
+use Rattle.model.specs.Store.{blockCount, blockUsed, storeBlocks, storeHistory}
 use Rattle.model.specs.declared.Span.{Span}
-use Rattle.laws.proofs.Accepted.{is-T}
-use Rattle.laws.proofs.Conditions.{clear}
 use Rattle.laws.proofs.Places.{heard-block}
 use Rattle.laws.proofs.Rows.{and-nothing}
-use Rattle.laws.proofs.Store.{accepted-holds}
+use Rattle.laws.proofs.Store.{taken-holds}
+use Rattle.laws.proofs.Writing.{is-none}
 use Rattle.entries.specs.View.{Opened}
 use Rattle.entries.specs.declared.View.{View}
 use Rattle.search.proofs.Finding.{block-holds, block-inside, block-lacks}
-use Rattle.search.proofs.Revisions.{passed}
 use Rattle.search.specs.Find.{Spanned, foundIn, spanOf}
 use Rattle.search.specs.declared.Found.{Found}
 
@@ -58,11 +55,7 @@ module _ (store : Bytes) (v : View) (o : Opened store v) where
     -- block 0: the tree lacks the sheet; else the block holds it
     pub found-none : {f : Found} → f ≡ foundIn store r i → f .block ≡ 0 → sheet (storeHistory store) r i ≡ none
     found-none e z =
-        lacking (sheet (storeHistory store) r i) (block-lacks store (v .n) (v .used) (o .accepted) r i in-history .0 (sym (ap (λ (f : Found). f .block) e) ∙ z))
-      where
-        lacking : (s : Option Bytes) → present s ≡ false → s ≡ none
-        lacking none q = refl
-        lacking (some x) q = let z : _≡_ {A = ℕ} 0 1 = cc in absurd (omega arith)
+        is-none (sheet (storeHistory store) r i) (block-lacks store (v .n) (v .used) (o .accepted) r i in-history .0 (sym (ap (λ (f : Found). f .block) e) ∙ z))
 
     pub found-some : {f : Found} → f ≡ foundIn store r i → (f .block ≡ 0 → ⊥)
         → sheet (storeHistory store) r i ≡ some (bytesAt (storeBlocks store) (f .block))
@@ -84,15 +77,11 @@ module _ (store : Bytes) (v : View) (o : Opened store v) where
     pub found-bytes : {f : Found} {x : Span} → f ≡ foundIn store r i → (f .block ≡ 0 → ⊥) → Spanned store (f .block) x
         → sheet (storeHistory store) r i ≡ some (take (x .len) (drop (x .start) store))
     found-bytes {f} {x} e n s =
-        let a = o .accepted in
-        let c = clear (storeConditions store) (a .clear) in
-        let l : length store ≡ blockCount store * 512 = subst (λ (m : ℕ). length store ≡ m * 512) (a .count) (passed store (v .n) (v .used) a .whole) in
-        let H = accepted-holds (blockCount store) store l (is-T (checked (blockCount store) store) (c .1 .0)) (is-T (lawful (blockCount store) store) (c .1 .1 .0)) in
         let q : x ≡ spanOf store (blockUsed store r i) = s .is ∙ ap (λ (f : Found). spanOf store (f .block)) e in
         let y = bytesAt (storeBlocks store) (f .block) in
         found-some e n
         ∙ ap some (sym (ap (λ (x : Span). take (x .len) (drop (x .start) store)) q
-        ∙ inside (heard-block (blockCount store) store [] (storeHistory store) r i y refl H in-history (found-some e n))))
+        ∙ inside (heard-block (blockCount store) store [] (storeHistory store) r i y refl (taken-holds store (o .accepted .clear)) in-history (found-some e n))))
       where
         inside : {a b : Bytes} → bytes a ≡ bytes b → a ≡ b
         inside e = cc

@@ -8,7 +8,6 @@ use native.Mathlib.Nat.{add-zero, zero-add}
 use native.Mathlib.Omega.{arith}
 use lib.Dec.{eqb}
 use lib.ListN.{getD, length, set}
-use lib.Seq.{set-getD}
 use Rattle.block.specs.Buffer.{blockAt}
 use Rattle.model.specs.Entry.{Entry, added, changeFor, copied, deleted, empty, normal}
 use Rattle.model.specs.History.{Bytes, change, last, nothing}
@@ -21,21 +20,16 @@ use Rattle.model.specs.declared.Entry.{Entry as TheEntry}
 use Rattle.model.specs.declared.State.{State}
 use Rattle.model.specs.declared.State.the-variants.{Added, Copied, Deleted, Empty, Normal}
 use Rattle.laws.proofs.Rows.{cond-any}
-use Rattle.laws.proofs.WorkCopy.{holds-copy}
 use Rattle.commits.specs.Outcome.{RightAt, RightFlags}
 use Rattle.entries.specs.View.{entryIn}
 use Rattle.filing.specs.Inner.{Settling, settledAs, settledRows, settledState, staysAs}
 use Rattle.masks.proofs.Bits.{Lowest, cleared-lt}
 use Rattle.masks.proofs.Visits.{rows-still, rows-visit}
 use Rattle.masks.specs.Mask.{atChosen}
-use Rattle.workcopy.proofs.Entries.{entry-fits, held, put-accepted, put-entries, put-seat}
+use Rattle.workcopy.proofs.Entries.{entry-fits, held, put-accepted, put-entries, put-seat, same-copy, same-entry}
 use Rattle.workcopy.specs.Copy.{Accepted, Carries, PutOk, Reading, bytesIn}
 
 -- ---- one entry
-
--- a copy is that of its entries
-same-copy : (copy : Bytes) → Accepted copy → copy ≡ copyBytes (seatOf copy) (entriesOf copy)
-same-copy copy a = sym (holds-copy copy (seatOf copy) (entriesOf copy) (held copy a) .4)
 
 settle-fits : (R flag : ℕ) (e : Entry) → 1 ≤ R → R < 65_536 → FitsCopyBlock (entryBlock e) → FitsCopyBlock (entryBlock (settledAs R flag e))
 settle-fits R flag empty lo hi f = tt
@@ -56,7 +50,7 @@ module _ {copy : Bytes} {R : ℕ} (S : Settling copy R) {k : ℕ} (g : k < 32) w
     pub settle-stays : b ≡ true → copy ≡ copyBytes (seatOf copy) (set (entriesOf copy) k (settledAs R flag (entryIn copy k)))
     settle-stays z =
         let s : settledAs R flag (entryIn copy k) ≡ entryIn copy k = ap (settledAs R flag) (sym (r .means)) ∙ same (e .state) (sym q ∙ z) ∙ r .means in
-        same-copy copy (S .accepted) ∙ ap (copyBytes (seatOf copy)) (sym (ap (set (entriesOf copy) k) s ∙ set-getD (entriesOf copy) k empty))
+        same-entry copy (S .accepted) k s
       where
         same : (s : State) → staysAs flag s ≡ true → settledAs R flag (entryAs s own) ≡ entryAs s own
         same Empty z = refl

@@ -1,6 +1,6 @@
 -- A store is accepted exactly when its blocks are the layout of a history, and that history is what is read.
 -- Assumes nothing.
-use Prim.Native.Nat.{_+_, _<_, _≤_, suc, zero, ℕ}
+use Prim.Native.Nat.{_+_, _<_, _≤_, suc, ℕ}
 use mathlib.Core.Bool.{Bool, _&&_, cond, false, not, true}
 use mathlib.Core.List.{List, [], _++_, _∷_, map}
 use mathlib.Core.Logic.{_↔_, inl, inr}
@@ -14,10 +14,11 @@ use lib.Seq.{ext-getD}
 use Rattle.block.proofs.Says.{Says, and-true, eq-or, says, says-all, says-allFrom, says-and, says-eq, says-le, says-lt, true-and}
 use Rattle.block.specs.Lists.{All, all}
 use Rattle.model.specs.Blocks.{Action, Block, Line, adds, blank, bytesAt, changes, commit, content, copies, deletes, label}
-use Rattle.model.specs.History.{Commit, History, nothing}
+use Rattle.model.specs.History.{Change, Commit, History, nothing}
 use Rattle.model.specs.Layout.{Laid, Lays, LaysFrom, NoneTwice, Rule, RuleAs, Table, means, named, pointed, puts}
 use Rattle.model.specs.Pass.{decodeStore, grown, isBlank, laid, noChanges, noneTwice, ok, okFrom, readAll, readFrom, rule, ruleAs, stated}
 use Rattle.laws.proofs.Puts.{length-puts, puts-each, puts-named, puts-other}
+use Rattle.laws.proofs.Rows.{replicate-any}
 
 says-twice : (ls : List Line) → Says (noneTwice ls) (NoneTwice ls)
 says-twice [] = record { true-so = λ t. tt; so-true = λ t. tt }
@@ -30,14 +31,9 @@ says-blank (commit r s t ls) = record { true-so = λ t. absurd t; so-true = λ e
 says-blank blank = record { true-so = λ t. refl; so-true = λ e. tt }
 
 -- `nothing` stands at every place of 32 of them, and past the end
-none-of : (n i : ℕ) → getD (replicate n nothing) i nothing ≡ nothing
-none-of zero i = refl
-none-of (suc n) zero = refl
-none-of (suc n) (suc i) = none-of n i
-
 pub no-change : (i : ℕ) → getD noChanges i nothing ≡ nothing
 unfolding noChanges
-no-change i = none-of 32 i
+no-change i = replicate-any (λ (c : Change). c ≡ nothing) 32 i nothing nothing refl refl
 
 pub places : length noChanges ≡ 32
 unfolding noChanges

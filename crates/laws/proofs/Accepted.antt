@@ -1,14 +1,14 @@
 -- Buffers that no line from 1 to 6 refuses: they are a side of the machine, and every call leaves them so, the copies of the other seats too.
 -- Assumes nothing.
-use Prim.Native.Nat.{_%_, _*_, _+_, _≤_, suc, zero, ℕ}
-use mathlib.Core.Bool.{Bool, _&&_, _||_, false, not, true}
-use mathlib.Core.List.{List, [], _∷_, map}
+use Prim.Native.Nat.{_+_, _≤_, ℕ}
+use mathlib.Core.Bool.{Bool, _&&_, false, not, true}
+use mathlib.Core.List.{List, map}
 use mathlib.Core.Option.{Option, none, some}
 use mathlib.Core.Path.{_∙_, _≡_, ap, refl, subst, sym}
 use native.Mathlib.Omega.{arith}
-use borrow.Author.Tests.{eqb-true, leb-true, ltb-false}
-use lib.Dec.{T, eqb, leb, ltb}
-use lib.ListN.{getD, length, length-append}
+use borrow.Author.Tests.{eqb-true, leb-true, not-false, not-true}
+use lib.Dec.{eqb, leb}
+use lib.ListN.{List·getD-map, getD, length, length-append}
 use Rattle.block.specs.Lists.{All}
 use Rattle.model.specs.Blocks.{Block}
 use Rattle.model.specs.Calls.{call, copyConditions, sideIn, storeConditions}
@@ -21,21 +21,17 @@ use Rattle.model.specs.Refusals.{Clear, conditions, firstOf}
 use Rattle.model.specs.Rows.{some-row}
 use Rattle.model.specs.Run.{Typed, sideBy, sideStep}
 use Rattle.model.specs.Shows.{Accepted, Seen}
-use Rattle.model.specs.Store.{Holds, blanks, blockCount, checked, front, lawful, storeBlocks, storeHistory}
+use Rattle.model.specs.Store.{Holds, blanks, blockCount, front, storeBlocks, storeHistory}
 use Rattle.model.specs.WorkCopy.{FitsCopyBlock, HoldsCopy, copyOk, entriesOf, entryBlock, seatOf}
 use Rattle.laws.proofs.Accepting.{accepted-sound}
 use Rattle.laws.proofs.All.{All-getD}
-use Rattle.laws.proofs.Conditions.{clear, none-holds}
+use Rattle.laws.proofs.Conditions.{clear, none-holds, sized-so}
 use Rattle.laws.proofs.Invariant.{KeptSide, fits-still, kept-doing}
-use Rattle.laws.proofs.Rows.{no-row, not-false, or-false}
+use Rattle.laws.proofs.Rows.{is-T, no-row}
 use Rattle.laws.proofs.Steps.{copy-clear, same-seat, side-one, store-clear}
-use Rattle.laws.proofs.Store.{accepted-holds}
+use Rattle.laws.proofs.Store.{taken-holds}
 use Rattle.laws.proofs.WorkCopy.{copy-holds}
 use Rattle.laws.proofs.Writing.{front-blanks, holds-blocks}
-
-pub is-T : (b : Bool) → not b ≡ false → T b
-is-T true e = tt
-is-T false e = let z : _≡_ {A = ℕ} 0 1 = cc in absurd (omega arith)
 
 pub both : (a b : Bool) → (a && b) ≡ true → (a ≡ true) × (b ≡ true)
 both true b e = (refl, e)
@@ -53,39 +49,21 @@ fits-of h i (added x) t f = record { size = f .0; bytes = f .1 }
 fits-of h i (deleted b) t f = base-of h b i (f .0) t
 fits-of h i (copied s r x) t f = (f .0, base-of h r s (f .1 .0) t, record { size = f .2 .0; bytes = f .2 .1 })
 
-piece-at : (es : List Entry) (i : ℕ) → getD (map entryBlock es) i (entryBlock empty) ≡ entryBlock (getD es i empty)
-piece-at [] i = refl
-piece-at (a ∷ es) zero = refl
-piece-at (a ∷ es) (suc i) = piece-at es i
-
 fits-each : (h : History) (es : List Entry) → fitsStore h es ≡ true → All FitsCopyBlock (map entryBlock es) → (i : ℕ) → FitsAt h i (getD es i empty)
 fits-each h es t a i =
-    let n : some-row (λ i e. not (fitsEntry h i e)) 0 es ≡ false = none-of (some-row (λ i e. not (fitsEntry h i e)) 0 es) t in
+    let n : some-row (λ i e. not (fitsEntry h i e)) 0 es ≡ false = not-true (some-row (λ i e. not (fitsEntry h i e)) 0 es) t in
     fits-of h i (getD es i empty) (not-false (fitsEntry h i (getD es i empty)) (no-row (λ i e. not (fitsEntry h i e)) empty (λ i. refl) es i n))
-    (subst FitsCopyBlock (piece-at es i) (All-getD FitsCopyBlock (map entryBlock es) i (entryBlock empty) a tt))
-  where
-    none-of : (b : Bool) → not b ≡ true → b ≡ false
-    none-of true e = sym e
-    none-of false e = refl
+    (subst FitsCopyBlock (List·getD-map entryBlock es i empty) (All-getD FitsCopyBlock (map entryBlock es) i (entryBlock empty) a tt))
 
 module _ (store copy : Bytes) (A : Accepted store copy) where
   abbrev d : Side
   d = sideIn store copy
 
-  store-lines : Clear (storeConditions store)
-  store-lines = clear (storeConditions store) (A .storeTaken)
-
   copy-lines : Clear (copyConditions store copy)
   copy-lines = clear (copyConditions store copy) (A .copyTaken)
 
-  size : length store ≡ blockCount store * 512
-  size =
-      let p = or-false (not (eqb (length store % 512) 0)) (ltb (blockCount store) 2 || ltb 4_096 (blockCount store)) (store-lines .0) in
-      let e : length store % 512 ≡ 0 = eqb-true (length store % 512) 0 (not-false (eqb (length store % 512) 0) (p .0)) in
-      omega (arith, e)
-
   holds : Holds (blockCount store) store (storeHistory store)
-  holds = accepted-holds (blockCount store) store size (is-T (checked (blockCount store) store) (store-lines .1 .0)) (is-T (lawful (blockCount store) store) (store-lines .1 .1 .0))
+  holds = taken-holds store (A .storeTaken)
 
   holds-mine : HoldsCopy copy (seatOf copy) (entriesOf copy)
   holds-mine = copy-holds copy (eqb-true (length copy) 16_896 (not-false (eqb (length copy) 16_896) (copy-lines .0))) (is-T (copyOk copy) (copy-lines .1 .0))
@@ -96,11 +74,10 @@ module _ (store copy : Bytes) (A : Accepted store copy) where
 
   pub accepted-seen : Seen (blockCount store) store copy d
   accepted-seen =
-      let p = or-false (not (eqb (length store % 512) 0)) (ltb (blockCount store) 2 || ltb 4_096 (blockCount store)) (store-lines .0) in
-      let q = or-false (ltb (blockCount store) 2) (ltb 4_096 (blockCount store)) (p .1) in
+      let q = sized-so store (clear (storeConditions store) (A .storeTaken) .0) in
       record {
-        few = ltb-false (blockCount store) 2 (q .0);
-        many = ltb-false 4_096 (blockCount store) (q .1);
+        few = q .1;
+        many = q .2;
         blocks = refl;
         stored = record { holds = holds; uses = refl };
         copied = holds-mine;

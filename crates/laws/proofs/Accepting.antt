@@ -15,7 +15,7 @@ use lib.Seq.{getD-append-seam, take-append-le, take-length}
 use Rattle.block.proofs.Says.{and-true, eq-or, says-false, says-same, says-true}
 use Rattle.block.specs.Lists.{All, all}
 use Rattle.model.specs.Blocks.{Action, Block, FitsBlock, Line, adds, blank, bytesAt, changes, commit, content, copies, deletes, held, label}
-use Rattle.model.specs.History.{Bytes, Change, Commit, History, Tree, applied, isBytes, newest, nothing, present, sheet, tree, treeFrom, tree₀}
+use Rattle.model.specs.History.{Bytes, Change, Commit, History, applied, isBytes, newest, nothing, present, sheet, tree, treeFrom, tree₀}
 use Rattle.model.specs.Invariant.{Made, Right, Short, Sound, usedBy}
 use Rattle.model.specs.Layout.{Laid, Lays, NoneTwice, Rule, RuleAs, Table, latest, means, meansAs, next, one-if, pointed, puts, user}
 use Rattle.model.specs.Machine.{blocksFor, contentOf, count}
@@ -24,12 +24,12 @@ use Rattle.model.specs.Rows.{total}
 use Rattle.model.specs.Store.{front}
 use Rattle.laws.proofs.Acceptance.{laid-so, lays-accepted, no-change, places}
 use Rattle.laws.proofs.All.{All-getD, All-map, All-snoc}
-use Rattle.laws.proofs.Append.{Below, grown-below, zero-below}
+use Rattle.laws.proofs.Append.{Below, grown-below, user-low, zero-below}
 use Rattle.laws.proofs.Bridge.{has, lacks}
 use Rattle.laws.proofs.Puts.{length-puts, puts-other}
 use Rattle.laws.proofs.Rows.{set-any}
 use Rattle.laws.proofs.Tables.{latest-snoc, length-next, next-tree, slot}
-use Rattle.laws.proofs.Trees.{sound-grown, used-grown}
+use Rattle.laws.proofs.Trees.{sound-grown, treeFrom-append, used-grown}
 
 -- ---- sums over the rows of a commit
 
@@ -142,9 +142,6 @@ pub record Known (look : ℕ → List ℕ) (tables : List Table) (g : History) :
   pub wide : All (λ (t : Table). length t ≡ 32) tables
   pub newest : map (slot look) (latest tables) ≡ tree g (length g)
 
-present-some : (o : Option Bytes) (x : Bytes) → o ≡ some x → present o ≡ true
-present-some o x e = ap present e
-
 module _ (look : ℕ → List ℕ) (short : (p : ℕ) → Short (look p)) (at k : ℕ) (tables : List Table) (g : History)
     (low : 1 ≤ at) (N : Known look tables g) (below : All (Below at) tables)
   where
@@ -165,9 +162,6 @@ module _ (look : ℕ → List ℕ) (short : (p : ℕ) → Short (look p)) (at k 
         go false e =
             let w : length (getD tables v []) ≤ 32 = All-getD (λ (t : Table). length t ≤ 32) tables v [] (All-map (λ (t : Table). length t ≡ 32) (λ (t : Table). length t ≤ 32) tables (λ t q. omega arith) (N .wide)) (lit≤ tt) in
             absurd (n (List·getD-eq-default (getD tables v []) 0 {n = s} (omega (arith, leb-false s 31 e))))
-
-    user-low : (v s : ℕ) → user look at k tables v s < at
-    user-low v s = All-getD (λ (p : ℕ). p < at) (getD tables v []) s 0 (All-getD (Below at) tables v [] below tt) low
 
     right-line : (l : Line) → Rule look at k tables l → Right g (l .sheet) (means look l)
     unfolding means
@@ -200,7 +194,7 @@ module _ (look : ℕ → List ℕ) (short : (p : ℕ) → Short (look p)) (at k 
               | inl o ↦ ap (λ (t : Bool). cond t 0 1) (says-false (says-same (look (l .block)) (look u)) (o .1)) ∙ sym (hit-in at k (l .block) (o .0 .0) (o .0 .1))
               | inr e ↦
                   ap (λ (t : Bool). cond t 0 1) (says-true (says-same (look (l .block)) (look u)) (ap look e))
-                  ∙ sym (hit-out at k (l .block) (omega (arith, e, user-low (l .revision) (l .source))))
+                  ∙ sym (hit-out at k (l .block) (omega (arith, e, user-low look at k tables low below (l .revision) (l .source))))
             ]
 
     content-lines : (ls : List Line) → All (Rule look at k tables) ls → total (λ (l : Line). contentOf g (means look l)) ls ≡ total (λ (l : Line). hit at k (l .block)) ls
@@ -240,10 +234,6 @@ module _ (look : ℕ → List ℕ) (short : (p : ℕ) → Short (look p)) (at k 
       taken-block =
           ap (λ (n : ℕ). n + 1) (total-puts (contentOf g) look ls refl (block .none-twice) inside
           ∙ content-lines ls (block .rules) ∙ pointers-hits at k ls ∙ pointers-each at k ls (block .one-each))
-
-      treeFrom-append : (t : Tree) (h f : History) → treeFrom t (h ++ f) ≡ treeFrom (treeFrom t h) f
-      treeFrom-append t [] f = refl
-      treeFrom-append t (c ∷ h) f = treeFrom-append (applied (c .changes) t) h f
 
       wide-latest : (ts : List Table) (n : ℕ) → length ts ≡ suc n → All (λ (t : Table). length t ≡ 32) ts → length (latest ts) ≡ 32
       wide-latest [] n e a = absurd (omega arith)

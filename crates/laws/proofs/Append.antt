@@ -30,18 +30,19 @@ latest-below n [] a = tt
 latest-below n (t ∷ []) a = a .0
 latest-below n (t ∷ (u ∷ ts)) a = latest-below n (u ∷ ts) (a .1)
 
+-- so is the block that a source uses
+pub user-low : (look : ℕ → List ℕ) (at k : ℕ) (tables : List Table) → 1 ≤ at → All (Below at) tables → (v s : ℕ) → user look at k tables v s < at
+user-low look at k tables low below v s = All-getD (λ (p : ℕ). p < at) (getD tables v []) s 0 (All-getD (Below at) tables v [] below tt) low
+
 module _ (look look′ : ℕ → List ℕ) (n : ℕ) (agree : (p : ℕ) → p < n → look p ≡ look′ p) where
   module _ (at k : ℕ) (tables : List Table) (low : 1 ≤ at) (top : at + k ≤ n) (below : All (Below at) tables) where
-    used : (v s : ℕ) → user look at k tables v s < at
-    used v s = All-getD (λ (p : ℕ). p < at) (getD tables v []) s 0 (All-getD (Below at) tables v [] below tt) low
-
     -- the rules ask for nothing past block n
     move-rule : (a : Action) (l : Line) → RuleAs look at k tables a l → RuleAs look′ at k tables a l
     move-rule adds l r = r
     move-rule changes l r = r
     move-rule deletes l r = r
     move-rule copies l r =
-        let u = used (l .revision) (l .source) in (
+        let u = user-low look at k tables low below (l .revision) (l .source) in (
           r .0,
           r .1,
           r .2,
@@ -55,7 +56,7 @@ module _ (look look′ : ℕ → List ℕ) (n : ℕ) (agree : (p : ℕ) → p < 
     small adds l r = r .1 .1
     small changes l r = r .1 .1
     small deletes l r = omega (arith, r .1)
-    small copies l r = elim (r .3) [ inl o ↦ o .0 .1 | inr q ↦ omega (arith, q, used (l .revision) (l .source)) ]
+    small copies l r = elim (r .3) [ inl o ↦ o .0 .1 | inr q ↦ omega (arith, q, user-low look at k tables low below (l .revision) (l .source)) ]
 
     smalls : (ls : List Line) → All (Rule look at k tables) ls → All (λ (l : Line). l .block < at + k) ls
     smalls ls a = All-map (Rule look at k tables) (λ (l : Line). l .block < at + k) ls (λ l r. small (l .action) l (r .1)) a

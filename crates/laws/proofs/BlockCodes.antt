@@ -1,6 +1,6 @@
 -- The bytes of a store's blocks: what is written of a block is read back as that block, and the test of its limits decides them.
 -- Assumes nothing.
-use Prim.Native.Nat.{_*_, _<_, _≤_, ℕ}
+use Prim.Native.Nat.{_*_, _<_, _≤_, suc, zero, ℕ}
 use mathlib.Core.List.{List, [], _++_, _∷_}
 use mathlib.Core.Path.{_≡_, ap, refl}
 use native.Mathlib.Omega.{arith}
@@ -16,6 +16,14 @@ action-back adds = refl
 action-back changes = refl
 action-back deletes = refl
 action-back copies = refl
+
+pub code-back : (y : ℕ) → 1 ≤ y → y ≤ 4 → codeOf (actionOf y) ≡ y
+code-back zero h g = absurd (omega arith)
+code-back (suc zero) h g = refl
+code-back (suc (suc zero)) h g = refl
+code-back (suc (suc (suc zero))) h g = refl
+code-back (suc (suc (suc (suc zero)))) h g = refl
+code-back (suc (suc (suc (suc (suc y))))) h g = absurd (omega arith)
 
 lines-back : (ls : List Line) (z : List ℕ) → parseLines (length ls) (linesOf ls ++ z) ≡ ls
 lines-back [] z = refl

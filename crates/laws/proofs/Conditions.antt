@@ -1,13 +1,20 @@
--- Laws on lists of conditions: the first that holds, and that none does.
+-- Laws on lists of conditions: the first that holds, and that none does; and what line 1 says of a store's size.
 -- Assumes nothing.
-use Prim.Native.Nat.{ℕ}
-use mathlib.Core.Bool.{Bool, cond, false, true}
+use Prim.Native.Nat.{_%_, _*_, _≤_, ℕ}
+use mathlib.Core.Bool.{Bool, _||_, cond, false, not, true}
 use mathlib.Core.List.{List, [], _++_, _∷_}
 use mathlib.Core.Logic.{_↔_, inl, inr}
 use mathlib.Core.Option.{Option, none, some}
-use mathlib.Core.Path.{_∙_, _≡_, ap, refl}
+use mathlib.Core.Path.{_∙_, _≡_, ap, ap₂, refl}
 use native.Mathlib.Omega.{arith}
+use borrow.Author.Tests.{eq-eqb, eqb-true, le-ltb, ltb-false, not-false}
+use lib.Dec.{eqb, ltb}
+use lib.ListN.{length}
+use Rattle.model.specs.Calls.{sizeCondition}
+use Rattle.model.specs.History.{Bytes}
 use Rattle.model.specs.Refusals.{Clear, Condition, First, firstOf}
+use Rattle.model.specs.Store.{blockCount}
+use Rattle.laws.proofs.Rows.{or-false}
 
 pub clear : (cs : List Condition) → firstOf cs ≡ none → Clear cs
 clear [] e = tt
@@ -42,3 +49,20 @@ first-iff (c ∷ cs) n = (to (c .holds) refl (first-iff cs n .0), from (first-if
     from : (First cs n → firstOf cs ≡ some n) → First (c ∷ cs) n → firstOf (c ∷ cs) ≡ some n
     from r (inl f) = rw (f .0) (ap some (f .1))
     from r (inr f) = rw (f .0) (r (f .1))
+
+-- ---- line 1
+
+pub sized-so : (store : Bytes) → sizeCondition store .holds ≡ false → (length store ≡ blockCount store * 512) × (2 ≤ blockCount store) × (blockCount store ≤ 4_096)
+sized-so store e =
+    let p = or-false (not (eqb (length store % 512) 0)) (ltb (blockCount store) 2 || ltb 4_096 (blockCount store)) e in
+    let q = or-false (ltb (blockCount store) 2) (ltb 4_096 (blockCount store)) (p .1) in
+    let m : length store % 512 ≡ 0 = eqb-true (length store % 512) 0 (not-false (eqb (length store % 512) 0) (p .0)) in
+    (omega (arith, m), ltb-false (blockCount store) 2 (q .0), ltb-false 4_096 (blockCount store) (q .1))
+
+pub so-sized : (N : ℕ) (store : Bytes) → length store ≡ N * 512 → 2 ≤ N → N ≤ 4_096 → sizeCondition store .holds ≡ false
+so-sized N store e lo hi =
+    let m : length store % 512 ≡ 0 = omega (arith, e) in
+    let two : 2 ≤ blockCount store = omega (arith, e) in
+    let top : blockCount store ≤ 4_096 = omega (arith, e) in
+    ap (λ (x : Bool). not x || (ltb (blockCount store) 2 || ltb 4_096 (blockCount store))) (eq-eqb (length store % 512) 0 m)
+    ∙ ap₂ _||_ (le-ltb (blockCount store) 2 two) (le-ltb 4_096 (blockCount store) top)

@@ -1,17 +1,15 @@
 -- Demand 2: a store and a working copy are accepted exactly if they are a layout, and read as what they are the layout of.
 -- Assumes nothing.
-use Prim.Native.Nat.{_%_, _*_, _≤_, ℕ}
-use mathlib.Core.Bool.{Bool, _||_, false, not, true}
+use Prim.Native.Nat.{ℕ}
+use mathlib.Core.Bool.{false, not, true}
 use mathlib.Core.List.{List}
 use mathlib.Core.Option.{Option, none, some}
-use mathlib.Core.Path.{_∙_, _≡_, ap, ap₂, refl, sym}
+use mathlib.Core.Path.{_∙_, _≡_, ap, refl}
 use native.Mathlib.Nat.{zero-add}
-use native.Mathlib.Omega.{arith}
-use borrow.Author.Tests.{eq-eqb, eqb-true, le-leb, le-ltb, leb-true, ltb-false}
-use lib.Dec.{eqb, leb, ltb}
+use borrow.Author.Tests.{eq-eqb, eqb-true, le-leb, leb-true, not-false, not-true}
+use lib.Dec.{eqb, leb}
 use lib.ListN.{getD, length}
 use Rattle.block.proofs.Says.{is-true}
-use Rattle.model.specs.Blocks.{fieldsOf}
 use Rattle.model.specs.Calls.{copyConditions, storeConditions}
 use Rattle.model.specs.Demand2.{Demand2, LaidStore}
 use Rattle.model.specs.Entry.{Entry, added, copied, deleted, empty, normal}
@@ -19,53 +17,27 @@ use Rattle.model.specs.Fitting.{FitsEntry, FitsRows, Has, fitsEntry, fitsStore,
 use Rattle.model.specs.History.{Bytes, History, last, present, sheet}
 use Rattle.model.specs.Refusals.{firstOf}
 use Rattle.model.specs.Rows.{some-row}
-use Rattle.model.specs.Store.{Holds, blockCount, blocksOf, checked, historyOf, lawful, storeHistory}
+use Rattle.model.specs.Store.{blockCount, storeHistory}
 use Rattle.model.specs.WorkCopy.{HoldsCopy, copyOk, entriesOf, seatOf}
-use Rattle.laws.proofs.Accepted.{both, is-T}
-use Rattle.laws.proofs.Conditions.{clear, none-holds}
-use Rattle.laws.proofs.Rows.{no-row, no-rows, not-false, or-false}
-use Rattle.laws.proofs.Store.{accepted-holds, holds-accepted}
-use Rattle.laws.proofs.WorkCopy.{copy-holds, holds-copy, length-joined}
-use Rattle.laws.proofs.Writing.{holds-blocks, is-some}
+use Rattle.laws.proofs.Accepted.{both}
+use Rattle.laws.proofs.Conditions.{clear, none-holds, sized-so}
+use Rattle.laws.proofs.Rows.{is-T, no-row, no-rows}
+use Rattle.laws.proofs.Store.{clear-held, history-held, taken-holds}
+use Rattle.laws.proofs.WorkCopy.{copy-holds, holds-copy}
+use Rattle.laws.proofs.Writing.{is-some}
 
 -- ---- the store
 
-length-laid : (N : ℕ) (store : Bytes) (h : History) → Holds N store h → length store ≡ N * 512
-length-laid N store h H =
-    let B = holds-blocks N store h H in
-    ap length (sym (B .bytes)) ∙ length-joined fieldsOf (blocksOf N store) ∙ ap (λ (n : ℕ). n * 512) (B .count)
-
 store-laid : (store : Bytes) → firstOf (storeConditions store) ≡ none → LaidStore store (storeHistory store)
 store-laid store e =
-    let c = clear (storeConditions store) e in
-    let p = or-false (not (eqb (length store % 512) 0)) (ltb (blockCount store) 2 || ltb 4_096 (blockCount store)) (c .0) in
-    let q = or-false (ltb (blockCount store) 2) (ltb 4_096 (blockCount store)) (p .1) in
-    let m : length store % 512 ≡ 0 = eqb-true (length store % 512) 0 (not-false (eqb (length store % 512) 0) (p .0)) in
-    record {
-      count = blockCount store;
-      few = ltb-false (blockCount store) 2 (q .0);
-      many = ltb-false 4_096 (blockCount store) (q .1);
-      holds = accepted-holds (blockCount store) store (omega (arith, m)) (is-T (checked (blockCount store) store) (c .1 .0)) (is-T (lawful (blockCount store) store) (c .1 .1 .0));
-    }
+    let q = sized-so store (clear (storeConditions store) e .0) in
+    record { count = blockCount store; few = q .1; many = q .2; holds = taken-holds store e }
 
 laid-store : (store : Bytes) (h : History) → LaidStore store h → (firstOf (storeConditions store) ≡ none) × (storeHistory store ≡ h)
-laid-store store h L =
-    let N : ℕ = L .count in
-    let l : length store ≡ N * 512 = length-laid N store h (L .holds) in
-    let n : blockCount store ≡ N = omega (arith, l) in
-    let m : length store % 512 ≡ 0 = omega (arith, l) in
-    let two : 2 ≤ blockCount store = omega (arith, n, L .few) in
-    let top : blockCount store ≤ 4_096 = omega (arith, n, L .many) in
-    let A = holds-accepted N store h (L .holds) in
-    let p : eqb (length store % 512) 0 ≡ true = eq-eqb (length store % 512) 0 m in
-    let q : ltb (blockCount store) 2 ≡ false = le-ltb (blockCount store) 2 two in
-    let r : ltb 4_096 (blockCount store) ≡ false = le-ltb 4_096 (blockCount store) top in
-    let c : checked (blockCount store) store ≡ true = ap (λ (n : ℕ). checked n store) n ∙ is-true (checked N store) (A .0) in
-    let w : lawful (blockCount store) store ≡ true = ap (λ (n : ℕ). lawful n store) n ∙ is-true (lawful N store) (A .1) in (
-      none-holds (storeConditions store)
-          (ap (λ (x : Bool). not x || (ltb (blockCount store) 2 || ltb 4_096 (blockCount store))) p ∙ ap₂ _||_ q r, (ap not c, (ap not w, tt))),
-      ap (λ (k : ℕ). historyOf k store) n ∙ A .2,
-    )
+laid-store store h L = (
+  none-holds (storeConditions store) (clear-held (L .count) store h (L .holds) (L .few) (L .many)),
+  history-held (L .count) store h (L .holds),
+)
 
 -- ---- the copy
 
@@ -95,12 +67,8 @@ so-fits h i (copied s v b) f = so-has h v s f
 
 rows-so : (h : History) (es : List Entry) → fitsStore h es ≡ true → FitsRows h es
 rows-so h es t i =
-    let n : some-row (λ i e. not (fitsEntry h i e)) 0 es ≡ false = none-of (some-row (λ i e. not (fitsEntry h i e)) 0 es) t in
+    let n : some-row (λ i e. not (fitsEntry h i e)) 0 es ≡ false = not-true (some-row (λ i e. not (fitsEntry h i e)) 0 es) t in
     fits-so h i (getD es i empty) (not-false (fitsEntry h i (getD es i empty)) (no-row (λ i e. not (fitsEntry h i e)) empty (λ i. refl) es i n))
-  where
-    none-of : (b : Bool) → not b ≡ true → b ≡ false
-    none-of true e = sym e
-    none-of false e = refl
 
 so-rows : (h : History) (es : List Entry) → FitsRows h es → fitsStore h es ≡ true
 so-rows h es f = ap not (no-rows (λ i e. not (fitsEntry h i e)) empty 0 es (λ i l. rw zero-add (ap not (so-fits h i (getD es i empty) (f i)))))

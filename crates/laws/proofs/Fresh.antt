@@ -1,13 +1,13 @@
 -- Fresh buffers: they are what create makes, and they show the fresh machine.
 -- Assumes nothing.
-use Prim.Native.Nat.{_%_, _*_, _-_, _<_, _≤_, suc, zero, ℕ}
-use mathlib.Core.Bool.{Bool, _&&_, _||_, cond, false, not, true}
+use Prim.Native.Nat.{_*_, _-_, _<_, _≤_, suc, zero, ℕ}
+use mathlib.Core.Bool.{Bool, _&&_, cond, not, true}
 use mathlib.Core.List.{List, [], _∷_, map}
 use mathlib.Core.Option.{none, some}
 use mathlib.Core.Path.{_∙_, _≡_, ap, ap₂, refl}
 use native.Mathlib.Omega.{arith}
-use borrow.Author.Tests.{eq-eqb, le-leb, le-ltb}
-use lib.Dec.{eqb, leb, ltb}
+use borrow.Author.Tests.{eq-eqb, le-leb}
+use lib.Dec.{eqb, leb}
 use lib.ListN.{getD, length, length-replicate, replicate}
 use Rattle.block.specs.Lists.{All}
 use Rattle.model.specs.Blocks.{Block, FitsBlock, blank, label}
@@ -19,6 +19,7 @@ use Rattle.model.specs.Machine.{done, fresh}
 use Rattle.model.specs.Shows.{Shows, Stored}
 use Rattle.model.specs.Store.{Holds, blockCount, front}
 use Rattle.model.specs.WorkCopy.{FitsCopyBlock, HoldsCopy, entryBlock}
+use Rattle.laws.proofs.Conditions.{so-sized}
 use Rattle.laws.proofs.WorkCopy.{copy-bytes}
 use Rattle.laws.proofs.Writing.{blocks-back, front-none}
 
@@ -63,13 +64,7 @@ pub create-store : (N : ℕ) (store : Bytes) → length store ≡ N * 512 → 2 
 unfolding createStore
 create-store N store e lo hi =
     let n : blockCount store ≡ N = omega (arith, e) in
-    let m : length store % 512 ≡ 0 = omega (arith, e) in
-    let p : eqb (length store % 512) 0 ≡ true = eq-eqb (length store % 512) 0 m in
-    let q : ltb (blockCount store) 2 ≡ false = (let z : 2 ≤ blockCount store = omega (arith, n) in le-ltb (blockCount store) 2 z) in
-    let r : ltb 4_096 (blockCount store) ≡ false = (let z : blockCount store ≤ 4_096 = omega (arith, n) in le-ltb 4_096 (blockCount store) z) in
-    let t : (not (eqb (length store % 512) 0) || (ltb (blockCount store) 2 || ltb 4_096 (blockCount store))) ≡ false =
-    ap (λ (x : Bool). not x || (ltb (blockCount store) 2 || ltb 4_096 (blockCount store))) p ∙ ap₂ _||_ q r in
-    ap (λ (x : Bool). createBy (cond x (some 1) none) store (freshStore (blockCount store))) t
+    ap (λ (x : Bool). createBy (cond x (some 1) none) store (freshStore (blockCount store))) (so-sized N store e lo hi)
     ∙ ap (λ (k : ℕ). createBy none store (freshStore k)) n
 
 pub create-copy : (copy : Bytes) (seat : ℕ) → length copy ≡ 16_896 → 1 ≤ seat → seat ≤ 4 → createCopy copy seat ≡ record { says = done; buffer = freshCopy seat }

@@ -16,8 +16,8 @@ use Rattle.model.specs.Layout.{Laid, Lays, LaysFrom, Table, user}
 use Rattle.model.specs.Pass.{grown, isBlank, laid, ok, okFrom, tablesAfter, tablesOf}
 use Rattle.model.specs.Writing.{Plan, contentsFor, fresh, linesFor, newBlocks, newContents, newLines, planCopy, planOf, plans, shared, skip}
 use Rattle.laws.proofs.Acceptance.{lays-accepted}
-use Rattle.laws.proofs.All.{All-getD, All-map}
-use Rattle.laws.proofs.Append.{Below, append, grown-below, unmoved, zero-below}
+use Rattle.laws.proofs.All.{All-map}
+use Rattle.laws.proofs.Append.{Below, append, grown-below, unmoved, user-low, zero-below}
 use Rattle.laws.proofs.Bridge.{Allowed, Trees, allowed-lawful, trees-of}
 use Rattle.laws.proofs.Writer.{LawfulFrom, freshes, lawful-laid}
 
@@ -107,7 +107,7 @@ commit-lays front bl bl′ h c nb z z′ some m s₁ s₄ size law one =
     now = bytesAt (front ++ newBlocks front bl c bl′)
 
     used : (v s : ℕ) → user old at k tables v s < at
-    used v s = All-getD (λ (p : ℕ). p < at) (getD tables v []) s 0 (All-getD (Below at) tables v [] (tables-below front bl h nb some m) tt) some
+    used = user-low old at k tables some (tables-below front bl h nb some m)
 
     e : plans front bl c ≡ map (planOf now at k tables) (c .changes)
     e = plans-same old now at k tables (λ v s. unmoved front bl (newBlocks front bl c bl′) (user old at k tables v s) (used v s)) (c .changes)

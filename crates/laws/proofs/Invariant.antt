@@ -6,7 +6,7 @@ use mathlib.Core.List.{List, [], _++_, _∷_}
 use mathlib.Core.Option.{Option, none, some}
 use mathlib.Core.Path.{_∙_, _≡_, ap, refl, sym}
 use native.Mathlib.Omega.{arith}
-use borrow.Author.Tests.{eqb-true, ltb-false}
+use borrow.Author.Tests.{eqb-true, ltb-false, not-false}
 use lib.Dec.{eqb, ltb}
 use lib.ListN.{getD, getD-replicate, length, length-append, length-set, replicate, set}
 use Rattle.block.specs.Lists.{All}
@@ -18,7 +18,7 @@ use Rattle.model.specs.Refusals.{conditions, firstOf, noSheet, outOfDate, tooLa
 use Rattle.model.specs.Rows.{rows, some-row, total}
 use Rattle.model.specs.Run.{AllValid, Turn, Typed, Valid, run, step, stepBy}
 use Rattle.laws.proofs.Conditions.{clear}
-use Rattle.laws.proofs.Rows.{and-false, and-nothing, cond-any, cond-same, length-rows, no-row, not-false, or-false, replicate-any, rows-any, rows-get, set-any}
+use Rattle.laws.proofs.Rows.{and-false, and-nothing, cond-any, cond-same, length-rows, no-row, or-false, replicate-any, rows-any, rows-get, set-any}
 use Rattle.laws.proofs.Trees.{Small, Wide, base-grown, same-namer, sheet-made, sheet-zero, small-tree, sound-grown, unnamed, used-grown}
 
 -- ---- one entry

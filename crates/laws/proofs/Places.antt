@@ -8,7 +8,7 @@ use mathlib.Core.Path.{_∙_, _≡_, ap, refl, subst, sym}
 use native.Mathlib.Omega.{arith}
 use borrow.Author.Tests.{leb-false, leb-true}
 use lib.Dec.{eqb, leb}
-use lib.ListN.{List·getD-eq-default, drop, getD, length, length-map, take}
+use lib.ListN.{List·getD-eq-default, List·getD-map, drop, getD, length, length-map, take}
 use lib.Seq.{drop-append-add, drop-append-le, take-append-seam}
 use Rattle.block.specs.Check.{checksOf}
 use Rattle.block.specs.Lists.{All}
@@ -135,7 +135,7 @@ heard-own store copy k es i x H le e =
     let ps : List CopyBlock = seatBlock k ∷ map entryBlock es in
     let s : 1 + i ≡ suc i = omega arith in
     let n : suc i < length ps = (let m = length-map es entryBlock in omega (arith, m, H .0)) in
-    let g : getD (map entryBlock es) i (entryBlock empty) ≡ entryBlock (getD es i empty) = piece-at es i in
+    let g : getD (map entryBlock es) i (entryBlock empty) ≡ entryBlock (getD es i empty) = List·getD-map entryBlock es i empty in
     let q = part-from copyFields ps (suc i) (entryBlock empty) n in
     let f : FitsCopyBlock (entryBlock (getD es i empty)) = subst FitsCopyBlock g (All-getD FitsCopyBlock (map entryBlock es) i (entryBlock empty) (H .2) tt) in
     ap (λ (m : ℕ). bytes (take (length x) (drop (512 * m + 16) copy))) s
@@ -143,8 +143,3 @@ heard-own store copy k es i x H le e =
     ∙ ap (λ (l : Bytes). bytes (take (length x) l)) (q .1)
     ∙ ap (λ (r : CopyBlock). bytes (take (length x) (drop 16 (encode copyFields r) ++ q .0))) g
     ∙ ap bytes (piece-body (getD es i empty) x e f (q .0))
-  where
-    piece-at : (es : List Entry) (i : ℕ) → getD (map entryBlock es) i (entryBlock empty) ≡ entryBlock (getD es i empty)
-    piece-at [] i = refl
-    piece-at (a ∷ es) zero = refl
-    piece-at (a ∷ es) (suc i) = piece-at es i

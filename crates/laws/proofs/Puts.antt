@@ -13,9 +13,6 @@ use Rattle.block.specs.Lists.{All}
 use Rattle.model.specs.Blocks.{Line}
 use Rattle.model.specs.Layout.{NoneTwice, named, puts}
 
-pub named-same : (l : Line) (ls : List Line) → named (l .sheet) (l ∷ ls) ≡ suc (named (l .sheet) ls)
-named-same l ls = rw (eq-eqb (l .sheet) (l .sheet) refl)
-
 pub named-other : (i : ℕ) (l : Line) (ls : List Line) → (l .sheet ≡ i → ⊥) → named i (l ∷ ls) ≡ named i ls
 named-other i l ls ne = rw (ne-eqb (l .sheet) i ne)
 

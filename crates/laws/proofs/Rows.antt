@@ -6,6 +6,7 @@ use mathlib.Core.List.{List, [], _∷_}
 use mathlib.Core.Path.{_≡_, ap, ap₂, refl, sym}
 use native.Mathlib.Nat.{add-suc, add-zero, suc-add, zero-add}
 use native.Mathlib.Omega.{arith}
+use lib.Dec.{T}
 use lib.ListN.{getD, length, replicate, set}
 use Rattle.model.specs.Rows.{rows, some-row}
 
@@ -30,9 +31,9 @@ pub and-nothing : (a : Bool) → (a && false) ≡ false
 and-nothing true = refl
 and-nothing false = refl
 
-pub not-false : (a : Bool) → not a ≡ false → a ≡ true
-not-false true e = refl
-not-false false e = sym e
+pub is-T : (b : Bool) → not b ≡ false → T b
+is-T true e = tt
+is-T false e = let z : _≡_ {A = ℕ} 0 1 = cc in absurd (omega arith)
 
 module _ {A B : Type 0} where
   pub length-rows : (f : ℕ → A → B) (k : ℕ) (l : List A) → length (rows f k l) ≡ length l

@@ -1,6 +1,6 @@
 -- One call: on buffers that show a state it answers as the machine does, and leaves buffers that show the machine's next state.
 -- Assumes nothing.
-use Prim.Native.Nat.{_%_, _*_, _+_, _-_, _<_, _≤_, suc, ℕ}
+use Prim.Native.Nat.{_+_, _-_, _<_, _≤_, suc, ℕ}
 use mathlib.Core.Bool.{Bool, _||_, false, not, true}
 use mathlib.Core.List.{List, [], _++_, _∷_, map}
 use mathlib.Core.Logic.{inl, inr}
@@ -8,8 +8,8 @@ use mathlib.Core.Option.{Option, none, some}
 use mathlib.Core.Path.{_∙_, _≡_, ap, ap₂, refl, subst, sym}
 use native.Mathlib.Nat.{zero-add}
 use native.Mathlib.Omega.{arith}
-use borrow.Author.Tests.{eq-eqb, le-leb, le-ltb, ltb-false}
-use lib.Dec.{eqb, ltb}
+use borrow.Author.Tests.{eq-eqb, le-leb, ltb-false}
+use lib.Dec.{eqb}
 use lib.ListN.{getD, length, length-set, set}
 use lib.Seq.{getD-set-other, getD-set-same, set-getD}
 use Rattle.block.proofs.Says.{eq-or, is-true}
@@ -26,17 +26,17 @@ use Rattle.model.specs.Refusals.{Clear, _when_, conditions, firstOf, noSheet, t
 use Rattle.model.specs.Rows.{some-row}
 use Rattle.model.specs.Run.{Turn, Typed, Valid, asked, sideBy, sideStep, step, stepBy}
 use Rattle.model.specs.Shows.{Seen, Shows, Stored}
-use Rattle.model.specs.Store.{blockCount, blockUsed, blocksOf, checked, front, historyOf, lawful, storeHistory, usedOf}
+use Rattle.model.specs.Store.{blockCount, blockUsed, blocksOf, front, storeHistory, usedOf}
 use Rattle.model.specs.WorkCopy.{FitsCopyBlock, HoldsCopy, copyBytes, copyOk, entriesOf, entryBlock}
 use Rattle.model.specs.Writing.{withCommit}
 use Rattle.laws.proofs.Conditions.{clear, clear-first}
 use Rattle.laws.proofs.Invariant.{KeptSide, committable, kept-doing, kept-side, made-commit}
 use Rattle.laws.proofs.Places.{heard-block, heard-own}
 use Rattle.laws.proofs.Rows.{or-false}
-use Rattle.laws.proofs.Store.{holds-accepted}
+use Rattle.laws.proofs.Store.{clear-held, count-held, history-held}
 use Rattle.laws.proofs.Trees.{used-low}
-use Rattle.laws.proofs.WorkCopy.{copy-bytes, holds-copy, length-joined}
-use Rattle.laws.proofs.Writing.{holds-blocks, stored-commit}
+use Rattle.laws.proofs.WorkCopy.{copy-bytes, holds-copy}
+use Rattle.laws.proofs.Writing.{stored-commit}
 
 -- ---- what fits passes the test, and has a layout
 
@@ -119,16 +119,11 @@ same-seat d (Log R i) = (refl, refl)
 -- ---- one call on a store and a seat's working copy
 
 module _ (N : ℕ) (store copy : Bytes) (d : Side) (E : Seen N store copy d) (K : KeptSide d) (lo : 1 ≤ d .seat) (hi : d .seat ≤ 4) where
-  length-store : length store ≡ N * 512
-  length-store =
-      let B = holds-blocks N store (d .history) (E .stored .holds) in
-      ap length (sym (B .bytes)) ∙ length-joined fieldsOf (blocksOf N store) ∙ ap (λ (n : ℕ). n * 512) (B .count)
-
   counted : blockCount store ≡ N
-  counted = omega (arith, length-store)
+  counted = count-held N store (d .history) (E .stored .holds)
 
   same-history : storeHistory store ≡ d .history
-  same-history = ap (λ (n : ℕ). historyOf n store) counted ∙ holds-accepted N store (d .history) (E .stored .holds) .2
+  same-history = history-held N store (d .history) (E .stored .holds)
 
   -- the call finds the side in the buffers
   same-side : sideIn store copy ≡ d
@@ -140,17 +135,7 @@ module _ (N : ℕ) (store copy : Bytes) (d : Side) (E : Seen N store copy d) (K 
 
   -- no line from 1 to 6 holds
   pub store-clear : Clear (storeConditions store)
-  store-clear =
-      let A = holds-accepted N store (d .history) (E .stored .holds) in
-      let m : length store % 512 ≡ 0 = omega (arith, length-store) in
-      let two : 2 ≤ blockCount store = omega (arith, counted, E .few) in
-      let top : blockCount store ≤ 4_096 = omega (arith, counted, E .many) in
-      let p : eqb (length store % 512) 0 ≡ true = eq-eqb (length store % 512) 0 m in
-      let q : ltb (blockCount store) 2 ≡ false = le-ltb (blockCount store) 2 two in
-      let r : ltb 4_096 (blockCount store) ≡ false = le-ltb 4_096 (blockCount store) top in
-      let c : checked (blockCount store) store ≡ true = ap (λ (n : ℕ). checked n store) counted ∙ is-true (checked N store) (A .0) in
-      let l : lawful (blockCount store) store ≡ true = ap (λ (n : ℕ). lawful n store) counted ∙ is-true (lawful N store) (A .1) in
-      (ap (λ (x : Bool). not x || (ltb (blockCount store) 2 || ltb 4_096 (blockCount store))) p ∙ ap₂ _||_ q r, (ap not c, (ap not l, tt)))
+  store-clear = clear-held N store (d .history) (E .stored .holds) (E .few) (E .many)
 
   pub copy-clear : Clear (copyConditions store copy)
   copy-clear =

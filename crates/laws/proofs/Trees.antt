@@ -8,14 +8,14 @@ use mathlib.Core.Path.{_∙_, _≡_, ap, refl, subst, sym}
 use native.Mathlib.Omega.{arith}
 use borrow.Author.Tests.{leb-false, leb-true}
 use lib.Dec.{leb}
-use lib.ListN.{List·getD-append, drop, getD, length, length-append, length-take, replicate, take}
+use lib.ListN.{List·getD-append, drop, getD, length, length-append, length-take, take}
 use lib.Seq.{getD-append-seam, getD-take, length-take-le, take-add, take-append-le, take-append-seam, take-length, take-suc, take-take}
 use Rattle.block.specs.Lists.{All}
 use Rattle.model.specs.History.{Bytes, Change, Commit, History, Tree, add, applied, change, changeOf, copy, delete, last, made, namer, namerFrom, names, newest, noCommit, nothing, present, sheet, tree, treeFrom, tree₀}
 use Rattle.model.specs.Invariant.{Base, Made, Right, Short, Sound, takes, usedBy}
 use Rattle.model.specs.Machine.{blocksFor}
 use Rattle.laws.proofs.All.{all-drop, all-take}
-use Rattle.laws.proofs.Rows.{cond-any}
+use Rattle.laws.proofs.Rows.{cond-any, replicate-any}
 use Rattle.laws.proofs.Tables.{applied-at, length-applied}
 
 -- ---- a grown history
@@ -33,7 +33,7 @@ length-treeFrom t [] e w = e
 length-treeFrom t (c ∷ h) e w =
     length-treeFrom (applied (c .changes) t) h (length-applied (c .changes) t (w .0 ∙ sym e) ∙ e) (w .1)
 
-treeFrom-append : (t : Tree) (h g : History) → treeFrom t (h ++ g) ≡ treeFrom (treeFrom t h) g
+pub treeFrom-append : (t : Tree) (h g : History) → treeFrom t (h ++ g) ≡ treeFrom (treeFrom t h) g
 treeFrom-append t [] g = refl
 treeFrom-append t (c ∷ h) g = treeFrom-append (applied (c .changes) t) h g
 
@@ -43,10 +43,6 @@ wide-of h s = go h (λ r lt. s r lt .wide)
     go : (h : History) → ((r : ℕ) → r < length h → Wide (getD h r noCommit)) → All Wide h
     go [] f = tt
     go (c ∷ h) f = (f 0 (omega arith), go h (λ r lt. f (suc r) (omega arith)))
-
-length-tree : (h : History) (R : ℕ) → All Wide h → length (tree h R) ≡ 32
-unfolding tree
-length-tree h R w = length-treeFrom tree₀ (take R h) refl (all-take Wide R h w)
 
 -- "Tree R is tree R−1 with commit R's changes made", sheet by sheet
 pub sheet-made : (h : History) (c : Commit) (i : ℕ) → Sound h → Wide c → newest (h ++ (c ∷ [])) i ≡ made (changeOf c i) (newest h i)
@@ -60,12 +56,7 @@ sheet-made h c i s w =
 
 pub sheet-zero : (h : History) (i : ℕ) → sheet h 0 i ≡ none
 unfolding tree
-sheet-zero h i = none-of 32 i
-  where
-    none-of : (n i : ℕ) → _≡_ {A = Option Bytes} (getD (replicate n none) i none) none
-    none-of zero i = refl
-    none-of (suc n) zero = refl
-    none-of (suc n) (suc i) = none-of n i
+sheet-zero h i = replicate-any (λ (o : Option Bytes). o ≡ none) 32 i none none refl refl
 
 -- the newest of the first R is tree R
 newest-upTo : (h : History) (R i : ℕ) → R ≤ last h → newest (take R h) i ≡ sheet h R i
@@ -212,13 +203,6 @@ sheet-step h R i s le =
     sym (newest-upTo h (suc R) i le) ∙ ap (λ (k : History). newest k i) (take-one h R le)
     ∙ sheet-made (take R h) (getD h R noCommit) i (sound-upTo h R s) (s R le .wide)
     ∙ ap (made (changeOf (getD h R noCommit) i)) (newest-upTo h R i (omega arith))
-
--- the same for the commit that last named the sheet
-pub namer-step : (h : History) (R i : ℕ) → R < last h → namer h (suc R) i ≡ cond (names (changeOf (getD h R noCommit) i)) (suc R) (namer h R i)
-namer-step h R i le =
-    let n : 0 + last (take R h) ≡ R = (let l : last (take R h) ≡ R = length-take-le R h (omega arith) in omega (arith, l)) in
-    ap (λ (k : History). namerFrom 0 0 k i) (take-one h R le) ∙ namer-append 0 0 (take R h) (getD h R noCommit ∷ []) i
-    ∙ ap (λ (m : ℕ). cond (names (changeOf (getD h R noCommit) i)) (suc m) (namer h R i)) n
 
 pub small-tree : (h : History) (R i : ℕ) → Sound h → R ≤ last h → Small (sheet h R i)
 small-tree h zero i s le = subst Small (sym (sheet-zero h i)) tt

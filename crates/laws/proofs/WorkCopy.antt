@@ -46,10 +46,6 @@ length-joined fields (r ∷ rs) =
     ∙ (let e : length (encode fields r) ≡ 512 = length-encode fields r in
     let q : length (joined fields rs) ≡ length rs * 512 = length-joined fields rs in omega (arith, e, q))
 
-pub length-copy : (seat : ℕ) (es : List Entry) → length es ≡ 32 → length (copyBytes seat es) ≡ 16_896
-unfolding copyBytes
-length-copy seat es e = length-joined copyFields (seatBlock seat ∷ map entryBlock es) ∙ (let n = length-map es entryBlock in omega (arith, e, n))
-
 -- THE STATEMENT: 16,896 bytes pass exactly where they are the layout of a seat with 32 entries, and these are what is read
 pub copy-holds : (l : List ℕ) → length l ≡ 16_896 → T (copyOk l) → HoldsCopy l (seatOf l) (entriesOf l)
 unfolding copyOk seatOf entriesOf copyBlocksOf HoldsCopy

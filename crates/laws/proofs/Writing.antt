@@ -23,8 +23,8 @@ use Rattle.model.specs.Shows.{Stored}
 use Rattle.model.specs.Store.{Holds, blanks, blocksOf, front}
 use Rattle.model.specs.Writing.{Plan, contentsFor, linesFor, newBlocks, newContents, newLines, planCopy, planOf, withCommit}
 use Rattle.laws.proofs.Acceptance.{lays-accepted}
-use Rattle.laws.proofs.All.{All-getD, all-append, all-drop, all-left, all-right}
-use Rattle.laws.proofs.Append.{Below}
+use Rattle.laws.proofs.All.{all-append, all-drop, all-left, all-right}
+use Rattle.laws.proofs.Append.{user-low}
 use Rattle.laws.proofs.BlockCodes.{block-coded}
 use Rattle.laws.proofs.Bridge.{Allowed, Trees, has, lacks, trees-of}
 use Rattle.laws.proofs.Codec.{so-parts}
@@ -125,7 +125,7 @@ right-from h i [] f = tt
 right-from h i (c ∷ cs) f =
     (let e : i + 0 ≡ i = omega arith in rw e at (f 0), right-from h (suc i) cs (λ j. let e : i + suc j ≡ suc i + j = omega arith in rw e at (f (suc j))))
 
-is-none : (o : Option Bytes) → present o ≡ false → o ≡ none
+pub is-none : (o : Option Bytes) → present o ≡ false → o ≡ none
 is-none none e = refl
 is-none (some x) e = let z : _≡_ {A = ℕ} 0 1 = cc in absurd (omega arith)
 
@@ -272,9 +272,9 @@ module _ (bs : List Block) (h : History) (L : Lays bs h) where
       (λ q. is-some (sheet h v s) (B .there) (lacks (bytesAt (front bs ++ blanks bs)) (getD (tablesOf (front bs)) v []) (tree h v) t s q))
 
   pub user-below : (v s : ℕ) → user (bytesAt (front bs ++ blanks bs)) (length (front bs)) 0 (tablesOf (front bs)) v s < length (front bs)
-  user-below v s =
-      All-getD (λ (p : ℕ). p < length (front bs)) (getD (tablesOf (front bs)) v []) s 0
-      (All-getD (Below (length (front bs))) (tablesOf (front bs)) v [] (tables-below (front bs) (blanks bs) h (no-blank bs) some-used lays-split) tt) some-used
+  user-below =
+      user-low (bytesAt (front bs ++ blanks bs)) (length (front bs)) 0 (tablesOf (front bs)) some-used
+      (tables-below (front bs) (blanks bs) h (no-blank bs) some-used lays-split)
 
 module _ (bs : List Block) (h : History) (c : Commit) (few : length bs ≤ 4_096) (F : All FitsBlock bs) (L : Lays bs h) (M : Made h c) (short : last h < 65_535)
     (room : length (front bs) + blocksFor h (c .changes) ≤ length bs)

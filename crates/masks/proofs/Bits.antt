@@ -2,12 +2,11 @@
 -- Assumes nothing.
 use Prim.Native.Nat.{_%_, _*_, _+_, _-_, _/_, _<_, _^_, _≤_, suc, suc-le-suc, zero, ℕ}
 use mathlib.Core.Bool.{false, true}
-use mathlib.Core.Logic.{_↔_, ⊎-elim}
+use mathlib.Core.Logic.{⊎-elim}
 use mathlib.Core.Path.{_∙_, _≡_, ap, ap₂, refl, subst, sym}
 use native.Mathlib.Nat.{add-comm, add-mul, add-zero, mod-eq-of-lt, mod-lt, mod-one, mod-self, mul-assoc, mul-left-comm, one-mul, pow-succ', zero-div, zero-lt-suc}
 use native.Mathlib.Numerals.{add-one, one-add}
 use native.Mathlib.Omega.{arith}
-use borrow.Author.Tests.{eq-eqb, eqb-true}
 use lib.Arith.{lt-of-le-ne}
 use lib.Bits.{and-block, and-mask, and-self, bitAnd, shifted-even}
 use lib.Count.{ones, ones-cat, trailingZeros, under}
@@ -130,10 +129,6 @@ module _ {n t : ℕ} (L : Lowest n t) where
 
 pub chosen-none : (i : ℕ) → chosen 0 i ≡ false
 chosen-none i = ap (λ (b : ℕ). eqb b 1) (bit-zero i)
-
--- a bit that is set is a sheet that is chosen
-pub chosen-bit : (m i : ℕ) → (chosen m i ≡ true) ↔ (bit m i ≡ 1)
-chosen-bit m i = (eqb-true (bit m i) 1, eq-eqb (bit m i) 1)
 
 -- ---- the count of the set bits
 bit-ones : (b : ℕ) → b < 2 → ones b ≡ b

@@ -2,7 +2,7 @@
 -- Of a loop that changes the row of each chosen sheet, and of one that looks for a row.
 -- Assumes nothing.
 use Prim.Native.Nat.{_+_, _-_, _<_, _^_, _≤_, suc, zero, ℕ}
-use mathlib.Core.Bool.{Bool, _&&_, _||_, cond, false, true}
+use mathlib.Core.Bool.{Bool, _&&_, _||_, cond, false, or-true, true}
 use mathlib.Core.List.{List, [], _∷_}
 use mathlib.Core.Path.{_∙_, _≡_, ap, ap₂, refl, sym}
 use native.Mathlib.Nat.{zero-add}
@@ -69,10 +69,6 @@ module _ {A : Type 0} (p : ℕ → A → Bool) where
   any-found c d (x ∷ es) k zero s e on q h = let z : k ≡ s = omega arith in rw (z, on, q)
   any-found c d (x ∷ es) k (suc t) s e on q h =
       ap (λ (w : Bool). (c k && p k x) || w) (any-found c d es (suc k) t s (omega arith) on q (omega arith)) ∙ or-true (c k && p k x)
-    where
-      or-true : (y : Bool) → (y || true) ≡ true
-      or-true true = refl
-      or-true false = refl
 
   any-off : (k : ℕ) (es : List A) → some-row (λ i e. chosen 0 i && p i e) k es ≡ false
   any-off k [] = refl

@@ -6,7 +6,7 @@ use Prim.Native.Nat.{ℕ}
 use mathlib.Core.List.{[], _∷_}
 use mathlib.Core.Logic.{_↔_}
 use mathlib.Core.Path.{_≡_}
-use Rattle.model.specs.Calls.{Created, Out, bothConditions, call, conditionsIn, createCopy, createCopyConditions, createStore, freshCopy, freshStore, out, sideIn, sizeCondition, storeOnlyConditions, storeSide}
+use Rattle.model.specs.Calls.{Out, bothConditions, call, conditionsIn, createCopy, createCopyConditions, createStore, freshCopy, freshStore, out, sideIn, sizeCondition, storeOnlyConditions, storeSide}
 use Rattle.model.specs.History.{Bytes}
 use Rattle.model.specs.Machine.{Call, Log, Read, doing, done, refused}
 use Rattle.model.specs.Refusals.{Clear, First}

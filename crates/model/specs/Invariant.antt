@@ -3,7 +3,6 @@
 use Prim.Native.Nat.{_+_, _<_, _^_, _≤_, ℕ}
 use mathlib.Core.Bool.{false, true}
 use mathlib.Core.List.{[], _++_, _∷_}
-use mathlib.Core.Option.{some}
 use mathlib.Core.Path.{_≡_}
 use lib.ListN.{getD, length, take}
 use Rattle.block.specs.Lists.{All}

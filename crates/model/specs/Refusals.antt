@@ -10,7 +10,7 @@ use lib.Dec.{eqb, ltb}
 use lib.ListN.{length}
 use Rattle.model.specs.Entry.{Entry, added, copied, deleted, empty, isEmpty, modified, normal, ownBytes, pending}
 use Rattle.model.specs.History.{History, last, namedAfter, newest, present, sheet}
-use Rattle.model.specs.Machine.{Add, Call, Commits, Copy, Delete, Edit, Log, Move, Read, Revert, Show, Side, Status, Update, blocksFor, chosen, commitChanges, entry, number, shown, updatedTo}
+use Rattle.model.specs.Machine.{Add, Call, Commits, Copy, Delete, Edit, Log, Move, Read, Revert, Show, Side, Status, Update, blocksFor, chosen, commitChanges, entry, shown, updatedTo}
 use Rattle.model.specs.Rows.{some-row}
 
 infix 70 _when_

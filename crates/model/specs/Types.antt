@@ -33,14 +33,6 @@ numberOf OutOfDate = 11
 numberOf Conflict = 12
 numberOf NoRoom = 13
 
--- the state's number in an entry's block: "empty (0) .. normal (1) .. added (2) .. deleted (3) .. copied (4)"
-abbrev pub stateNumber : State → ℕ
-stateNumber Empty = 0
-stateNumber (Normal b) = 1
-stateNumber Added = 2
-stateNumber (Deleted b) = 3
-stateNumber (Copied s) = 4
-
 -- an entry in this state, with these bytes
 abbrev pub entryAs : State → Bytes → Entry
 entryAs Empty x = empty

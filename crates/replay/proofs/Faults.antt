@@ -7,7 +7,7 @@ use mathlib.Core.Option.{Option, none, some}
 use mathlib.Core.Logic.{inl, inr}
 use mathlib.Core.Path.{_∙_, _≡_, ap, subst, sym}
 use native.Mathlib.Omega.{arith}
-use borrow.Author.Tests.{eq-eqb, eqb-true, le-ltb, lt-ltb, ltb-false, ne-eqb}
+use borrow.Author.Tests.{eq-eqb, eqb-true, le-ltb, lt-ltb, ltb-false, ne-eqb, not-false}
 use lib.Dec.{eqb, ltb}
 use lib.ListN.{drop, length, take}
 use Rattle.block.proofs.Says.{eq-or}
@@ -17,7 +17,7 @@ use Rattle.entries.specs.declared.Checked.the-variants.{Ready, Refused}
 use Rattle.entries.specs.declared.View.{View}
 use Rattle.inner.proofs.Refusing.{first-stays}
 use Rattle.laws.proofs.Conditions.{clear, clear-first, clear-split, none-holds}
-use Rattle.laws.proofs.Rows.{not-false, or-false}
+use Rattle.laws.proofs.Rows.{or-false}
 use Rattle.model.specs.Calls.{copyConditions, storeConditions}
 use Rattle.model.specs.History.{Bytes}
 use Rattle.model.specs.Refusals.{Clear, Condition, _when_, firstOf}

@@ -4,14 +4,13 @@ use Prim.Native.Nat.{_%_, _+_, _-_, _/_, _<_, _≤_, suc, ℕ}
 use mathlib.Core.Bool.{Bool, false, not, true}
 use mathlib.Core.Path.{_∙_, _≡_, ap, refl, sym}
 use native.Mathlib.Omega.{arith}
-use borrow.Author.Tests.{eq-eqb, le-leb, lt-leb, ne-eqb}
+use borrow.Author.Tests.{eq-eqb, le-leb, lt-leb, ne-eqb, not-false, not-true}
 use lib.Dec.{leb}
 use lib.ListN.{getD, length}
 use Rattle.block.specs.Buffer.{blockAt}
 use Rattle.block.specs.Field.{fourAt, twoAt}
 use Rattle.block.specs.Lists.{allFrom}
 use Rattle.inner.specs.declared.Call.the-variants.{Log}
-use Rattle.laws.proofs.Rows.{not-false}
 use Rattle.model.specs.History.{Bytes}
 use Rattle.replay.specs.Script.{callAs, callIn, recordOk, scriptOk}
 
@@ -53,10 +52,6 @@ logs k a b n1 n2 n3 n4 n5 n6 n7 n8 n9 n10 n11 =
     (rw
     (ne-eqb k 1 n1, ne-eqb k 2 n2, ne-eqb k 3 n3, ne-eqb k 4 n4, ne-eqb k 5 n5, ne-eqb k 6 n6, ne-eqb k 7 n7, ne-eqb k 8 n8, ne-eqb k 9 n9, ne-eqb k 10 n10, ne-eqb k 11 n11))
 
-none-of : (b : Bool) → not b ≡ true → b ≡ false
-none-of true e = sym e
-none-of false e = refl
-
 -- the records of a script, from record i on
 module _ (s : Bytes) where
   abbrev pub goodFrom : ℕ → ℕ → Bool
@@ -79,7 +74,7 @@ module _ (s : Bytes) where
     next = omega arith
 
     pub bad-here : not b ≡ true → false ≡ goodFrom i (n - i)
-    bad-here q = sym (ap (goodFrom i) left ∙ rw (← e, none-of b q))
+    bad-here q = sym (ap (goodFrom i) left ∙ rw (← e, not-true b q))
 
     pub good-here : not b ≡ false → goodFrom (i + 1) (n - (i + 1)) ≡ goodFrom i (n - i)
     good-here q =

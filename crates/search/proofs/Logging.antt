@@ -25,12 +25,13 @@ use Rattle.laws.proofs.Accepting.{count-lines, total-puts}
 use Rattle.laws.proofs.All.{All-map}
 use Rattle.search.proofs.BackLaws.{few-changes}
 use Rattle.search.proofs.DeedLaws.{does-lines}
-use Rattle.search.proofs.Revisions.{Passed, count, count-one, counted, okAll, opened, passed, read-rest, rev-at, used-high, used-is, usedIn}
+use Rattle.search.proofs.Revisions.{Passed, count, count-one, counted, okAll, opened, passed, rev-at, used-high, used-is, usedIn}
 use Rattle.search.specs.Deed.{deedIn}
 use Rattle.search.specs.Find.{Accepted, Bound, revAt}
 use Rattle.shape.proofs.Shapes.{length-parse}
 use Rattle.shape.specs.Shape.{kindOf}
 use Rattle.store.proofs.Blocks.{block-at, lent, part-size}
+use Rattle.store.proofs.OpenLaws.{first-read}
 use Rattle.store.proofs.PassLaws.{commitOf, parse-commit}
 
 -- block p is a commit block, and the history has its commit
@@ -143,7 +144,7 @@ module _ (s : Bytes) (n used : ℕ) (A : Accepted s n used) (r b : ℕ) (G : Bou
   unfolding historyOf
   its-commit =
       ap (λ (m : ℕ). getD (historyOf m s) (r - 1) noCommit) (sym (A .count))
-      ∙ ap (λ (x : History). getD x (r - 1) noCommit) (read-rest (blocksOf n s) rest (opened (blocksOf n s) (okAll s n used P) .1))
+      ∙ ap (λ (x : History). getD x (r - 1) noCommit) (first-read (blocksOf n s) rest (opened (blocksOf n s) (okAll s n used P) .1))
       ∙ ap (λ (x : ℕ). getD (readFrom look rest) x noCommit) (sym just)
       ∙ there .states
 

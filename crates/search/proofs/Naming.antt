@@ -20,10 +20,11 @@ use Rattle.model.specs.Store.{blocksOf, historyOf}
 use Rattle.laws.proofs.Acceptance.{no-change, places}
 use Rattle.laws.proofs.Puts.{length-puts}
 use Rattle.laws.proofs.Trees.{namer-append}
-use Rattle.search.proofs.Revisions.{Passed, count, counted, kinds, okAll, opened, read-rest, states, stating, used-few, used-is, usedIn}
+use Rattle.search.proofs.Revisions.{Passed, count, counted, kinds, okAll, opened, states, stating, used-few, used-is, usedIn}
 use Rattle.search.specs.Find.{Bound, back, hitIn, inBlock}
 use Rattle.search.specs.declared.Found.{Found}
 use Rattle.shape.specs.Shape.{kindOf}
+use Rattle.store.proofs.OpenLaws.{first-read}
 
 -- ---- a commit
 
@@ -144,4 +145,4 @@ named-last s n used r b i A G last h =
     ∙ ap (λ (x : ℕ). back (label ∷ bs) i x .revision) e
     ∙ back-names look bs (q .2) i h (b - 1) u
     ∙ ap (λ (y : History). namerFrom 0 0 y i) (read-take look bs (b - 1) (solid-take look 1 0 (replicate 32 0 ∷ []) bs (q .2) (b - 1) u)
-    ∙ ap₂ (λ (x : ℕ) (y : History). take x y) (counted s n used A r b G last) (sym (read-rest (blocksOf n s) bs (q .1))))
+    ∙ ap₂ (λ (x : ℕ) (y : History). take x y) (counted s n used A r b G last) (sym (first-read (blocksOf n s) bs (q .1))))

@@ -1,14 +1,14 @@
 -- The revisions that the blocks of an accepted store state: one more than the commits before.
 -- Assumes nothing.
-use Prim.Native.Nat.{_%_, _*_, _+_, _-_, _/_, _<_, _≤_, suc, zero, ℕ}
-use mathlib.Core.Bool.{_&&_, _||_, not, true}
+use Prim.Native.Nat.{_*_, _+_, _-_, _/_, _<_, _≤_, suc, zero, ℕ}
+use mathlib.Core.Bool.{_&&_, true}
 use mathlib.Core.List.{List, [], _∷_}
 use mathlib.Core.Logic.{inl, inr}
 use mathlib.Core.Path.{_∙_, _≡_, ap, refl, subst, sym}
 use native.Mathlib.Numerals.{add-one}
 use native.Mathlib.Omega.{arith}
-use borrow.Author.Tests.{eqb-true, ltb-false}
-use lib.Dec.{T, eqb, eqb→eq, ltb}
+use borrow.Author.Tests.{not-false}
+use lib.Dec.{T, eqb, eqb→eq}
 use lib.ListN.{getD, length, length-append, replicate, take}
 use Rattle.block.proofs.Says.{and-true, eq-or}
 use Rattle.block.specs.Field.{twoAt}
@@ -18,14 +18,14 @@ use Rattle.model.specs.Calls.{storeConditions}
 use Rattle.model.specs.Codec.{parts, shaped}
 use Rattle.model.specs.History.{Commit}
 use Rattle.model.specs.Layout.{Table, latest, next}
-use Rattle.model.specs.Pass.{grown, laid, ok, okFrom, readAll, readFrom}
+use Rattle.model.specs.Pass.{grown, laid, ok, okFrom, readFrom}
 use Rattle.model.specs.Store.{blockCount, blocksOf, front, historyOf, lawful}
-use Rattle.laws.proofs.Conditions.{clear}
-use Rattle.laws.proofs.Rows.{not-false, or-false}
+use Rattle.laws.proofs.Conditions.{clear, sized-so}
 use Rattle.laws.proofs.Tables.{trail}
 use Rattle.search.specs.Find.{Accepted, Bound, revAt}
 use Rattle.shape.specs.Shape.{kindOf}
 use Rattle.store.proofs.Blocks.{block-at, length-blocks, lent, lent-is}
+use Rattle.store.proofs.OpenLaws.{first-read}
 use Rattle.store.proofs.PassLaws.{parse-commit, parse-content, parse-low}
 
 -- how many blocks are used
@@ -42,13 +42,11 @@ pub record Passed (s : List ℕ) (n used : ℕ) : Type 0 where
 pub passed : (s : List ℕ) (n used : ℕ) → Accepted s n used → Passed s n used
 passed s n used A =
     let c = clear (storeConditions s) (A .clear) in
-    let o = or-false (not (eqb (length s % 512) 0)) (ltb (blockCount s) 2 || ltb 4_096 (blockCount s)) (c .0) in
-    let z : length s % 512 ≡ 0 = eqb-true (length s % 512) 0 (not-false (eqb (length s % 512) 0) (o .0)) in
-    let g = ltb-false 4_096 (blockCount s) (or-false (ltb (blockCount s) 2) (ltb 4_096 (blockCount s)) (o .1) .1) in
+    let o = sized-so s (c .0) in
     let e : n ≡ length s / 512 = A .count in
     record {
-      whole = omega arith;
-      few = omega arith;
+      whole = omega (arith, o .0);
+      few = omega (arith, o .2);
       laws = subst (λ (m : ℕ). lawful m s ≡ true) (sym e) (not-false (lawful (blockCount s) s) (c .1 .1 .0));
       inUse = A .inUse ∙ ap (λ (m : ℕ). usedIn (blocksOf m s)) (sym e);
     }
@@ -186,10 +184,6 @@ stating-two l h =
       | inr o ↦ ap stating (parse-commit l (omega (arith, parse-low l)))
     ]
 
-pub read-rest : (bs rest : List Block) → bs ≡ label ∷ rest → readAll bs ≡ readFrom (bytesAt bs) rest
-unfolding readAll
-read-rest bs rest e = subst (λ (x : List Block). readAll x ≡ readFrom (bytesAt x) rest) (sym e) refl
-
 module _ (s : List ℕ) (n used : ℕ) (A : Passed s n used) where
   pub okAll : T (ok (blocksOf n s))
   unfolding lawful
@@ -246,7 +240,7 @@ module _ (s : List ℕ) (n used : ℕ) (A : Passed s n used) where
 
     history-count : length (historyOf n s) ≤ count (take (usedIn rest) rest)
     unfolding historyOf
-    history-count = subst (λ (x : List Commit). length x ≤ count (take (usedIn rest) rest)) (sym (read-rest (blocksOf n s) rest whole)) (counts-all (bytesAt (blocksOf n s)) rest)
+    history-count = subst (λ (x : List Commit). length x ≤ count (take (usedIn rest) rest)) (sym (first-read (blocksOf n s) rest whole)) (counts-all (bytesAt (blocksOf n s)) rest)
 
     at-least : r ≤ count (take (b - 1) rest)
     at-least =

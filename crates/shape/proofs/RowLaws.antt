@@ -24,7 +24,7 @@ Alike n k l = (i : ℕ) → i < n → getD k i 0 ≡ getD l i 0
 length-row : (v : ℕ) (l : List ℕ) → 32 * v + 32 ≤ length l → length (rowOf v l) ≡ 32
 length-row v l h = length-take-le 32 (drop (32 * v) l) (simp length-drop (omega arith))
 
-row-at : (v i : ℕ) (l : List ℕ) → i < 32 → getD (rowOf v l) i 0 ≡ getD l (32 * v + i) 0
+pub row-at : (v i : ℕ) (l : List ℕ) → i < 32 → getD (rowOf v l) i 0 ≡ getD l (32 * v + i) 0
 row-at v i l h = getD-take 32 (drop (32 * v) l) i 0 h ∙ getD-drop (32 * v) l i 0
 
 pub row-same : (v w : ℕ) (k l : List ℕ) → 32 * v + 32 ≤ length k → 32 * w + 32 ≤ length l

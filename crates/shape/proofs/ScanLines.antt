@@ -12,20 +12,13 @@ use Rattle.block.proofs.Says.{Says, says-and, says-eq}
 use Rattle.block.specs.Lists.{same}
 use Rattle.model.specs.Blocks.{Action, actionOf, adds, changes, codeOf, copies, deletes, linesOf, parseLines}
 use Rattle.model.specs.Codec.{padTo}
+use Rattle.laws.proofs.BlockCodes.{code-back}
 
 code-range : (a : Action) → (1 ≤ codeOf a) × (codeOf a ≤ 4)
 code-range adds = omega arith
 code-range changes = omega arith
 code-range deletes = omega arith
 code-range copies = omega arith
-
-code-back : (y : ℕ) → 1 ≤ y → y ≤ 4 → codeOf (actionOf y) ≡ y
-code-back zero h g = absurd (omega arith)
-code-back (suc zero) h g = refl
-code-back (suc (suc zero)) h g = refl
-code-back (suc (suc (suc zero))) h g = refl
-code-back (suc (suc (suc (suc zero)))) h g = refl
-code-back (suc (suc (suc (suc (suc y))))) h g = absurd (omega arith)
 
 says-action : (y : ℕ) → Says (eqb (codeOf (actionOf y)) y) ((1 ≤ y) × (y ≤ 4))
 says-action y =

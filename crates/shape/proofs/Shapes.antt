@@ -1,7 +1,7 @@
 -- The shape of a block of each kind as a chain of tests on its bytes.
 -- Assumes nothing.
 use Prim.Native.Nat.{_%_, _*_, _+_, _-_, _/_, _<_, _≤_, suc, zero, ℕ}
-use mathlib.Core.Bool.{Bool, _&&_, false, true}
+use mathlib.Core.Bool.{Bool, _&&_, true}
 use mathlib.Core.List.{List, [], _∷_}
 use mathlib.Core.Logic.{inl, inr}
 use mathlib.Core.Path.{_∙_, _≡_, ap, refl, subst, sym}
@@ -9,8 +9,9 @@ use native.Mathlib.Omega.{arith}
 use borrow.Author.Tests.{eq-eqb, ne-eqb}
 use lib.Dec.{T, eqb, leb}
 use lib.ListN.{drop, getD, length, length-drop, take}
-use lib.Seq.{drop-cons, drop-drop, getD-drop}
-use Rattle.block.proofs.Says.{Says, and-true, eq-or, says-alike, says-and, says-eq, says-le, true-and}
+use lib.Seq.{drop-drop, getD-drop}
+use Rattle.block.proofs.Parts.{first-sixteen}
+use Rattle.block.proofs.Says.{Says, and-true, bool-alike, eq-or, says-alike, says-and, says-eq, says-le, true-and}
 use Rattle.block.specs.Field.{fourAt, twoAt}
 use Rattle.block.specs.Lists.{All, allFrom, same}
 use Rattle.model.specs.Blocks.{FitsLine, commit, fieldsOf, fitsBlock, linesOf, parse, parseLines}
@@ -132,29 +133,6 @@ commit-core m k y x₁ x₂ x₃ x₄ x₅ x₆ x₇ x₈ x₉ x₁₀ x₁₁ x
         ),
       );
     }
-
-first-sixteen : (l : List ℕ) → 16 ≤ length l
-    → l ≡ getD l 0 0 ∷ getD l 1 0 ∷ getD l 2 0 ∷ getD l 3 0 ∷ getD l 4 0 ∷ getD l 5 0 ∷ getD l 6 0 ∷ getD l 7 0
-    ∷ getD l 8 0 ∷ getD l 9 0 ∷ getD l 10 0 ∷ getD l 11 0 ∷ getD l 12 0 ∷ getD l 13 0 ∷ getD l 14 0 ∷ getD l 15 0 ∷ drop 16 l
-first-sixteen l h =
-    cc (
-      drop-cons l 0 0 (omega arith),
-      drop-cons l 1 0 (omega arith),
-      drop-cons l 2 0 (omega arith),
-      drop-cons l 3 0 (omega arith),
-      drop-cons l 4 0 (omega arith),
-      drop-cons l 5 0 (omega arith),
-      drop-cons l 6 0 (omega arith),
-      drop-cons l 7 0 (omega arith),
-      drop-cons l 8 0 (omega arith),
-      drop-cons l 9 0 (omega arith),
-      drop-cons l 10 0 (omega arith),
-      drop-cons l 11 0 (omega arith),
-      drop-cons l 12 0 (omega arith),
-      drop-cons l 13 0 (omega arith),
-      drop-cons l 14 0 (omega arith),
-      drop-cons l 15 0 (omega arith),
-    )
 
 commit-any : (m k y : ℕ) (l n : List ℕ) (Q : Type 0) → ((i : ℕ) → getD l i 0 < 256) → m ≡ twoAt l 2 → y ≡ fourAt l 8
     → 3 ∷ getD l 1 0 ∷ getD l 2 0 ∷ getD l 3 0 ∷ getD l 4 0 ∷ getD l 5 0 ∷ getD l 6 0 ∷ getD l 7 0
@@ -283,12 +261,6 @@ module _ (l : List ℕ) (size : length l ≡ 512) where
           q .1 .1 .1 .1,
         ))))
       where
-        bool-alike : (a b : Bool) → (T a → T b) → (T b → T a) → a ≡ b
-        bool-alike true true f g = refl
-        bool-alike true false f g = absurd (f tt)
-        bool-alike false true f g = absurd (g tt)
-        bool-alike false false f g = refl
-
         four : (i : ℕ) → 12 ≤ i → i < 12 + 4 → (getD l 12 0 ≡ 0) × (getD l 13 0 ≡ 0) × (getD l 14 0 ≡ 0) × (getD l 15 0 ≡ 0) → getD l i 0 ≡ 0
         four i a b p =
             elim (eq-or i 12) [

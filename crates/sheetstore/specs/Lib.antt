@@ -1,2 +1,3 @@
 -- The definitions that the contracts of `sheetstore` cite.
 pub mod Numbers
+pub mod Replay

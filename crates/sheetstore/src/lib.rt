@@ -9,6 +9,7 @@ ghost use Rattle.model.specs.Calls.{addCall, commitCall, copyCall, createCopy, 
 ghost use Rattle.model.specs.Types.{answerOf, placeOf};
 ghost use Rattle.model.specs.declared.Answer.the-variants.{Logged};
 ghost use Rattle.sheetstore.specs.Numbers.{answerNumbers, both, bothNumbers, copyNumbers, left, leftNumbers, logNumbers, noLog, partNumbers};
+ghost use Rattle.sheetstore.specs.Replay.{ReplayNumbers};
 
 // A refusal's number, or 0 and the revision or status, if the call answers one.
 #[repr(C)]
@@ -284,4 +285,17 @@ pub extern "C" fn sheets_status<'a>(store: &'a [u8], copy: &'a [u8], sheet: u32)
     ensures { λ r. ⌜ r ≡ answerNumbers (statusCall (now (store .entry)) (now (copy .entry)) sheet) ⌝ }
 {
     answer_numbers(engine::status(store, copy, sheet))
+}
+
+// The calls of a script on a store and four working copies side by side, and a record for each answer.
+#[no_mangle]
+pub extern "C" fn sheets_replay(
+    script: &[u8],
+    store: &mut [u8],
+    copies: &mut [u8],
+    answers: &mut [u8],
+) -> SheetsAnswer
+    ensures { λ r. ⌜ ReplayNumbers (now (script .entry)) (now (store .entry)) (now (copies .entry)) (now (answers .entry)) r (now (store .exit)) (now (copies .exit)) (now (answers .exit)) ⌝ }
+{
+    answer_numbers(replay::replay(script, store, copies, answers))
 }

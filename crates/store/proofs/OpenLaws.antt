@@ -28,7 +28,7 @@ first-ok : (bs rest : List Block) → bs ≡ label ∷ rest → ok bs ≡ okFrom
 unfolding ok
 first-ok bs rest e = subst (λ (x : List Block). ok x ≡ okFrom (bytesAt x) 1 0 (replicate 32 0 ∷ []) rest) (sym e) refl
 
-first-read : (bs rest : List Block) → bs ≡ label ∷ rest → readAll bs ≡ readFrom (bytesAt bs) rest
+pub first-read : (bs rest : List Block) → bs ≡ label ∷ rest → readAll bs ≡ readFrom (bytesAt bs) rest
 unfolding readAll
 first-read bs rest e = subst (λ (x : List Block). readAll x ≡ readFrom (bytesAt x) rest) (sym e) refl
 

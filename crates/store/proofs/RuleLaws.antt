@@ -1,7 +1,7 @@
 -- The rule of one change over numbers is the rule of the layout.
 -- Assumes nothing.
 use Prim.Native.Nat.{_*_, _+_, _<_, _≤_, suc, zero, ℕ}
-use mathlib.Core.Bool.{Bool, _&&_, _||_, false, not, true}
+use mathlib.Core.Bool.{_&&_, false, not, or-false, or-true, true}
 use mathlib.Core.List.{List, [], _++_, _∷_}
 use mathlib.Core.Logic.{inl, inr}
 use mathlib.Core.Path.{_∙_, _≡_, ap, refl, subst, sym}
@@ -10,7 +10,7 @@ use native.Mathlib.Omega.{arith}
 use borrow.Author.Tests.{eq-eqb, le-leb, le-ltb, lt-leb, lt-ltb, ne-eqb}
 use lib.Dec.{T, eqb}
 use lib.ListN.{List·getD-append, List·getD-eq-default, drop, getD, length, length-append, length-take}
-use lib.Seq.{getD-append-add, getD-drop, getD-take}
+use lib.Seq.{getD-append-add, getD-drop}
 use Rattle.block.proofs.Says.{eq-or, says-and, says-le, says-lt}
 use Rattle.block.specs.Field.{twoAt}
 use Rattle.block.specs.Lists.{same}
@@ -20,6 +20,7 @@ use Rattle.model.specs.Pass.{rule}
 use Rattle.laws.proofs.Rows.{cond-same}
 use Rattle.laws.proofs.Tables.{latest-snoc}
 use Rattle.shape.proofs.LineLaws.{block-of, sheet-of}
+use Rattle.shape.proofs.RowLaws.{row-at}
 use Rattle.shape.specs.Rows.{rowOf, rowsOf}
 use Rattle.store.specs.Rule.{copyRule, ownOf, plainRule}
 use Rattle.store.specs.declared.Change.{Change}
@@ -50,12 +51,9 @@ row-in (suc r) v tab h =
       | inr o ↦ List·getD-append (rowsOf r tab) (rowOf r tab ∷ []) [] v (omega arith) ∙ row-in r v tab (omega arith)
     ]
 
-in-row : (v i : ℕ) (tab : List ℕ) → i < 32 → getD (rowOf v tab) i 0 ≡ getD tab (32 * v + i) 0
-in-row v i tab h = getD-take 32 (drop (32 * v) tab) i 0 h ∙ getD-drop (32 * v) tab i 0
-
 -- the block that sheet i of tree v uses
 used-at : (r v i : ℕ) (tab : List ℕ) → v < r → i < 32 → getD (getD (rowsOf r tab) v []) i 0 ≡ getD tab (32 * v + i) 0
-used-at r v i tab h g = ap (λ (x : Table). getD x i 0) (row-in r v tab h) ∙ in-row v i tab g
+used-at r v i tab h g = ap (λ (x : Table). getD x i 0) (row-in r v tab h) ∙ row-at v i tab g
 
 pub used-past : (r v i : ℕ) (tab : List ℕ) → v < r → 32 ≤ i → getD (getD (rowsOf r tab) v []) i 0 ≡ 0
 used-past r v i tab h g =
@@ -66,7 +64,7 @@ used-past r v i tab h g =
 pub old-at : (last i : ℕ) (tab : List ℕ) → i < 32 → getD (latest (rowsOf (last + 1) tab)) i 0 ≡ getD tab (32 * last + i) 0
 unfolding rowsOf
 old-at last i tab g =
-    rw (add-one last) (ap (λ (x : Table). getD x i 0) (latest-snoc (rowsOf last tab) (rowOf last tab)) ∙ in-row last i tab g)
+    rw (add-one last) (ap (λ (x : Table). getD x i 0) (latest-snoc (rowsOf last tab) (rowOf last tab)) ∙ row-at last i tab g)
 
 -- ---- the copy
 
@@ -98,20 +96,12 @@ module _ (look : ℕ → List ℕ) (w : Spot) (c : Change) where
         copy-shared q =
             rw (eq-eqb (c .old) 0 e, le-leb 1 (c .revision) some, lt-ltb (c .revision) (w .last + 1) past-lt, ne-eqb used 0 there, eq-eqb (c .block) used q)
             (or-true (ownOf (w .at) (w .k) (c .block) && not (same (look (c .block)) (look used))))
-          where
-            or-true : (b : Bool) → (b || true) ≡ true
-            or-true true = refl
-            or-true false = refl
 
         pub copy-own : (c .block ≡ used → ⊥) → copyRule look w c used ≡ (ownOf (w .at) (w .k) (c .block) && not (same (look (c .block)) (look used)))
         unfolding copyRule
         copy-own q =
             rw (eq-eqb (c .old) 0 e, le-leb 1 (c .revision) some, lt-ltb (c .revision) (w .last + 1) past-lt, ne-eqb used 0 there, ne-eqb (c .block) used q)
             (or-false (ownOf (w .at) (w .k) (c .block) && not (same (look (c .block)) (look used))))
-          where
-            or-false : (b : Bool) → (b || false) ≡ b
-            or-false true = refl
-            or-false false = refl
 
 -- the source's block, read off the flat table
 pub from-row : (look : ℕ → List ℕ) (w : Spot) (c : Change) (tab : List ℕ) → c .revision ≤ w .last → c .source < 32

@@ -9,24 +9,21 @@ use lib.ListN.{drop, length, set, take}
 use Rattle.block.proofs.Says.{eq-or}
 use Rattle.block.specs.Buffer.{blockAt}
 use Rattle.model.specs.Blocks.{bytesAt}
-use Rattle.model.specs.Calls.{storeConditions}
 use Rattle.model.specs.Entry.{Entry, deleted, normal}
-use Rattle.model.specs.History.{Bytes, History, last, present, sheet}
+use Rattle.model.specs.History.{Bytes, History, present, sheet}
 use Rattle.model.specs.Invariant.{Base, FitsAt}
 use Rattle.model.specs.Machine.{asIn, orElse, revertedOf}
 use Rattle.model.specs.Refusals.{lacking}
-use Rattle.model.specs.Store.{blockCount, checked, lawful, storeBlocks, storeHistory, usedOf}
+use Rattle.model.specs.Store.{blockCount, storeBlocks, storeHistory}
 use Rattle.model.specs.Types.{entryAs}
 use Rattle.model.specs.WorkCopy.{FitsCopyBlock, copyBytes, entriesOf, entryBlock, seatOf}
 use Rattle.model.specs.declared.Entry.{Entry as TheEntry}
 use Rattle.model.specs.declared.Span.{Span}
 use Rattle.model.specs.declared.State.{State}
 use Rattle.model.specs.declared.State.the-variants.{Added, Copied, Deleted, Empty, Normal}
-use Rattle.laws.proofs.Accepted.{is-T}
-use Rattle.laws.proofs.Conditions.{clear}
 use Rattle.laws.proofs.Invariant.{fits-reverted, fits-updated}
 use Rattle.laws.proofs.Places.{store-place}
-use Rattle.laws.proofs.Store.{accepted-holds}
+use Rattle.laws.proofs.Store.{taken-holds}
 use Rattle.laws.proofs.Writing.{holds-blocks}
 use Rattle.entries.proofs.Looking.{found-inside, found-none, found-some}
 use Rattle.entries.proofs.States.{as-read}
@@ -34,11 +31,11 @@ use Rattle.entries.specs.View.{Fitting, Stands, UpdateIs, entryIn, rebased, upd
 use Rattle.entries.specs.declared.Update.{Update}
 use Rattle.entries.specs.declared.Update.the-variants.{Conflict, Rebase, Stay, Take}
 use Rattle.entries.specs.declared.View.{View}
-use Rattle.search.proofs.Revisions.{passed}
-use Rattle.search.specs.Find.{Accepted, Spanned, foundIn}
+use Rattle.search.specs.Find.{Spanned, foundIn}
 use Rattle.search.specs.declared.Found.{Found}
-use Rattle.updates.proofs.Keeping.{fits-limits, kept, same-entry}
+use Rattle.updates.proofs.Keeping.{fits-limits, kept}
 use Rattle.updates.specs.Inner.{Takable, conflicting, rebasedState, updatedOf}
+use Rattle.workcopy.proofs.Entries.{same-entry}
 use Rattle.workcopy.specs.Copy.{Carries, PutOk, Reading, bytesIn}
 
 -- ---- a block of the store
@@ -47,10 +44,7 @@ module _ {store copy : Bytes} {k r p : ℕ} (T : Takable store copy k r p) {x : 
   -- its bytes stand in the store
   taken-bytes : take (x .start + x .len - x .start) (drop (x .start) store) ≡ bytesAt (storeBlocks store) p
   taken-bytes =
-      let a : Accepted store (blockCount store) (usedOf store) = record { clear = T .clear; count = refl; inUse = refl } in
-      let c = clear (storeConditions store) (T .clear) in
-      let H = accepted-holds (blockCount store) store (passed store (blockCount store) (usedOf store) a .whole) (is-T (checked (blockCount store) store) (c .1 .0)) (is-T (lawful (blockCount store) store) (c .1 .1 .0)) in
-      let B = holds-blocks (blockCount store) store (storeHistory store) H in
+      let B = holds-blocks (blockCount store) store (storeHistory store) (taken-holds store (T .clear)) in
       let n : x .start + x .len - x .start ≡ x .len = omega arith in
       ap (λ (n : ℕ). take n (drop (x .start) store)) n
       ∙ ap (λ (x : Span). take (x .len) (drop (x .start) store)) (s .is)
@@ -123,7 +117,7 @@ module _ {store copy : Bytes} {v : View} (F : Fitting store copy v) where
     deleted-base q = subst (FitsAt h k) (as-read r q) (kept store copy v F .fits k)
 
     pub revert-stays : e .state ≡ Empty → copy ≡ put k (revertedOf h k (entryIn copy k))
-    revert-stays q = same-entry store copy v F k (ap (revertedOf h k) (as-read r q) ∙ sym (as-read r q))
+    revert-stays q = same-entry copy (F .viewed .accepted) k (ap (revertedOf h k) (as-read r q) ∙ sym (as-read r q))
 
     -- what is put where the state is s
     pub reverts : {s : State} {t : Bytes} → e .state ≡ s → t ≡ put k (revertedOf h k (entryAs s (bytesIn e (blockAt copy (k + 1))))) → t ≡ put k (revertedOf h k (entryIn copy k))
@@ -141,10 +135,10 @@ module _ {store copy : Bytes} {v : View} (F : Fitting store copy v) where
         ∙ ap (λ (o : Option Entry). orElse o (entryIn copy k)) (U .means)
 
     pub update-conflict : u ≡ Conflict → copy ≡ put k (updatedOf h R k (entryIn copy k))
-    update-conflict q = same-entry store copy v F k (sym (left q))
+    update-conflict q = same-entry copy (F .viewed .accepted) k (sym (left q))
 
     pub update-stays : u ≡ Stay → copy ≡ put k (updatedOf h R k (entryIn copy k))
-    update-stays q = same-entry store copy v F k (sym (left q))
+    update-stays q = same-entry copy (F .viewed .accepted) k (sym (left q))
 
     -- what is put where the way is w
     pub updates : {w : Update} {t : Bytes} → u ≡ w → t ≡ put k (orElse (updatedAs w store R (entryIn copy k)) (entryIn copy k)) → t ≡ put k (updatedOf h R k (entryIn copy k))

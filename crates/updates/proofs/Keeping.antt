@@ -2,12 +2,11 @@
 -- Assumes nothing.
 use Prim.Native.Nat.{_≤_, ℕ}
 use mathlib.Core.List.{List}
-use mathlib.Core.Path.{_∙_, _≡_, ap, sym}
+use mathlib.Core.Path.{_∙_, ap, sym}
 use native.Mathlib.Omega.{arith}
 use lib.ListN.{set}
-use lib.Seq.{set-getD}
 use Rattle.model.specs.Calls.{sideIn}
-use Rattle.model.specs.Entry.{Entry, empty}
+use Rattle.model.specs.Entry.{Entry}
 use Rattle.model.specs.Fitting.{fitsStore}
 use Rattle.model.specs.History.{Bytes, History}
 use Rattle.model.specs.Invariant.{FitsAt}
@@ -20,7 +19,7 @@ use Rattle.laws.proofs.Steps.{fits-all, fits-piece, laid-copy}
 use Rattle.laws.proofs.Trees.{used-low}
 use Rattle.laws.proofs.WorkCopy.{holds-copy}
 use Rattle.entries.proofs.Checking.{fitting-accepted}
-use Rattle.entries.specs.View.{Fitting, entryIn}
+use Rattle.entries.specs.View.{Fitting}
 use Rattle.entries.specs.declared.View.{View}
 use Rattle.workcopy.proofs.Entries.{held}
 
@@ -58,12 +57,3 @@ module _ (store copy : Bytes) (v : View) (F : Fitting store copy v) where
   -- THE STATEMENTS: with one other entry, which fits
   pub fitting-entry : (k : ℕ) (e : Entry) → FitsAt h k e → Fitting store (copyBytes (seatOf copy) (set (entriesOf copy) k e)) v
   fitting-entry k e f = fitting-of (set (entriesOf copy) k e) (kept-entry d k e kept f)
-
-  -- the copy is that of its entries, also with one of them put again
-  pub same-copy : copy ≡ copyBytes (seatOf copy) (entriesOf copy)
-  same-copy = sym (holds-copy copy (seatOf copy) (entriesOf copy) (held copy (F .viewed .accepted)) .4)
-
-  pub same-entry : (k : ℕ) {e : Entry} → e ≡ entryIn copy k → copy ≡ copyBytes (seatOf copy) (set (entriesOf copy) k e)
-  same-entry k e =
-      same-copy
-      ∙ ap (copyBytes (seatOf copy)) (sym (ap (set (entriesOf copy) k) e ∙ set-getD (entriesOf copy) k empty))

@@ -18,9 +18,9 @@ use Rattle.entries.specs.declared.View.{View}
 use Rattle.masks.proofs.Bits.{Lowest, cleared-lt}
 use Rattle.masks.proofs.Visits.{any-here, any-next, any-none, anyChosen, rows-still, rows-visit}
 use Rattle.masks.specs.Mask.{atChosen}
-use Rattle.updates.proofs.Keeping.{fits-limits, fitting-entry, kept, same-copy}
+use Rattle.updates.proofs.Keeping.{fits-limits, fitting-entry, kept}
 use Rattle.updates.specs.Inner.{conflicting}
-use Rattle.workcopy.proofs.Entries.{put-entries}
+use Rattle.workcopy.proofs.Entries.{put-entries, same-copy}
 
 -- f is to be done at the entries that m chooses, of those that the mask chose at first
 pub record Doing (store : Bytes) (v : View) (f : ℕ → Entry → Entry) (mask : ℕ) (first : Bytes) (copy : Bytes) (m : ℕ) : Type 0 where
@@ -54,7 +54,7 @@ module _ {store : Bytes} {v : View} {f : ℕ → Entry → Entry} {mask : ℕ} {
       let s : seatOf copy ≡ seatOf first = sym (D .fitting .seat) ∙ F .seat in
       let e : entriesOf copy ≡ rows (atChosen f mask) 0 (entriesOf first) =
       sym (rows-still f (entriesOf copy)) ∙ ap (λ (n : ℕ). rows (atChosen f n) 0 (entriesOf copy)) (sym z) ∙ D .left in
-      same-copy store copy v (D .fitting) ∙ (λ i. copyBytes (s i) (e i))
+      same-copy copy (D .fitting .viewed .accepted) ∙ (λ i. copyBytes (s i) (e i))
 
 -- ---- a conflict among the chosen entries
 

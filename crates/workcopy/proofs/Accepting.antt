@@ -1,26 +1,21 @@
 -- Acceptance as the code goes about it: the first block passes as the seat's, and then each of 32 as an entry's.
 -- Assumes nothing.
 use Prim.Native.Nat.{_*_, _+_, _-_, _<_, suc, ℕ}
-use mathlib.Core.Bool.{Bool, _&&_, cond, false, not, true}
+use mathlib.Core.Bool.{Bool, _&&_, cond, false, true}
 use mathlib.Core.List.{List, [], _∷_, map}
-use mathlib.Core.Option.{some}
 use mathlib.Core.Path.{_∙_, _≡_, ap, refl, subst, sym}
 use native.Mathlib.Omega.{arith}
 use borrow.Author.Tests.{eq-eqb, eqb-true, ne-eqb}
 use lib.Dec.{T, eqb}
 use lib.ListN.{drop, getD, length, take}
 use lib.Seq.{drop-drop, getD-take}
-use Rattle.block.proofs.Says.{Says, and-true, is-true, says-alike, says-and3, says-eq, says-same, true-and}
+use Rattle.block.proofs.Says.{Says, and-true, says-alike, says-and3, says-eq, says-same, true-and}
 use Rattle.block.specs.Buffer.{blockAt}
 use Rattle.block.specs.Check.{sealed}
 use Rattle.block.specs.Lists.{all, same}
-use Rattle.model.specs.Calls.{copySizeCondition}
 use Rattle.model.specs.Codec.{padded, parts, shaped}
 use Rattle.model.specs.Entry.{added, copied, deleted, empty, normal}
-use Rattle.model.specs.Refusals.{Condition, _when_, firstOf}
-use Rattle.model.specs.Types.{numberOf}
 use Rattle.model.specs.WorkCopy.{CopyBlock, arranged, copyBlocksOf, copyFields, copyOk, entryBlock, fitsCopyBlock, isEntry, parseCopyBlock, seatBlock, seatIn, seatOf}
-use Rattle.model.specs.declared.Refusal.{Refusal}
 use Rattle.model.specs.declared.Refusal.the-variants.{CopyLayout, CopyLength}
 use Rattle.workcopy.proofs.Scan.{parse-seat}
 use Rattle.workcopy.specs.Copy.{Accepted, acceptOf}
@@ -179,19 +174,6 @@ module _ (l : List ℕ) where
       tests true true e = (refl, tt, cc)
       tests true false e = let z : _≡_ {A = ℕ} 0 1 = cc in absurd (omega arith)
       tests false b e = let z : _≡_ {A = ℕ} 0 1 = cc in absurd (omega arith)
-
-  -- the same beside the lines 4 and 5 of the document's order
-  pub accepted-first : (ds : List Condition) → Accepted l → firstOf (copySizeCondition l ∷ 5 when not (copyOk l) ∷ ds) ≡ firstOf ds
-  accepted-first ds a = rw (eq-eqb (length l) 16_896 (a .size), is-true (copyOk l) (a .ok))
-
-  pub refused-first : (r : Refusal) (ds : List Condition) → acceptOf l ≡ Refused r → firstOf (copySizeCondition l ∷ 5 when not (copyOk l) ∷ ds) ≡ some (numberOf r)
-  unfolding acceptOf
-  refused-first r ds e = lines (eqb (length l) 16_896) (copyOk l) e
-    where
-      lines : (a b : Bool) → cond a (cond b (Seat (seatOf l)) (Refused CopyLayout)) (Refused CopyLength) ≡ Refused r → firstOf (4 when not a ∷ 5 when not b ∷ ds) ≡ some (numberOf r)
-      lines true true e = let z : _≡_ {A = ℕ} 0 1 = cc in absurd (omega arith)
-      lines true false e = let q : CopyLayout ≡ r = cc in ap (λ (x : Refusal). some (numberOf x)) q
-      lines false b e = let q : CopyLength ≡ r = cc in ap (λ (x : Refusal). some (numberOf x)) q
 
 -- ---- the loop over the 32 blocks: what is left of them from block i on
 

@@ -8,7 +8,7 @@ use native.Mathlib.Numerals.{add-one}
 use native.Mathlib.Omega.{arith}
 use lib.Dec.{eqb}
 use lib.ListN.{List·getD-map, drop, getD, length, length-drop, length-map, length-set, set, take}
-use lib.Seq.{length-take-le}
+use lib.Seq.{length-take-le, set-getD}
 use Rattle.block.specs.Buffer.{blockAt, withBlock}
 use Rattle.block.specs.Field.{twoAt}
 use Rattle.model.specs.Codec.{encode, padded}
@@ -35,6 +35,13 @@ map-set (x ∷ es) (suc i) e = ap (λ (l : List CopyBlock). entryBlock x ∷ l) 
 module _ (l : List ℕ) (a : Accepted l) where
   pub held : HoldsCopy l (seatOf l) (entriesOf l)
   held = copy-holds l (a .size) (a .ok)
+
+  -- the copy is that of its entries, also with one of them put again
+  pub same-copy : l ≡ copyBytes (seatOf l) (entriesOf l)
+  same-copy = sym (holds-copy l (seatOf l) (entriesOf l) held .4)
+
+  pub same-entry : (k : ℕ) {e : Entry} → e ≡ getD (entriesOf l) k empty → l ≡ copyBytes (seatOf l) (set (entriesOf l) k e)
+  same-entry k e = same-copy ∙ ap (copyBytes (seatOf l)) (sym (ap (set (entriesOf l) k) e ∙ set-getD (entriesOf l) k empty))
 
   module _ (i : ℕ) (h : i < 32) where
     -- block 1 + i is that of entry i, which is within the limits

@@ -9,6 +9,7 @@ use borrow.Author.Tests.{ne-eqb}
 use lib.Dec.{T, leb}
 use lib.ListN.{drop, getD, length, length-drop, length-take, take}
 use lib.Seq.{drop-cons, getD-drop, length-take-le}
+use Rattle.block.proofs.Parts.{first-sixteen}
 use Rattle.block.proofs.Says.{Says, says-alike, says-and, says-eq, says-false, says-le, says-same, true-and, true-says}
 use Rattle.block.specs.Check.{isZero}
 use Rattle.block.specs.Field.{twoAt}
@@ -55,16 +56,6 @@ so-tail zero n t h z = refl
 so-tail (suc k) n [] h z = absurd (omega arith)
 so-tail (suc k) zero (x ∷ t) h z = cc (z 0 (omega arith) (omega arith), so-tail k zero t (omega arith) (λ i a b. z (suc i) (omega arith) (omega arith)))
 so-tail (suc k) (suc n) (x ∷ t) h z = cc (so-tail k n t (omega arith) (λ i a b. z (suc i) (omega arith) (omega arith)))
-
-first-sixteen : (l : List ℕ) → 16 ≤ length l
-    → l ≡ getD l 0 0 ∷ getD l 1 0 ∷ getD l 2 0 ∷ getD l 3 0 ∷ getD l 4 0 ∷ getD l 5 0 ∷ getD l 6 0 ∷ getD l 7 0
-    ∷ getD l 8 0 ∷ getD l 9 0 ∷ getD l 10 0 ∷ getD l 11 0 ∷ getD l 12 0 ∷ getD l 13 0 ∷ getD l 14 0 ∷ getD l 15 0 ∷ drop 16 l
-first-sixteen l h =
-    at 0 (omega arith) (at 1 (omega arith) (at 2 (omega arith) (at 3 (omega arith) (at 4 (omega arith) (at 5 (omega arith) (at 6 (omega arith) (at 7 (omega arith)
-    (at 8 (omega arith) (at 9 (omega arith) (at 10 (omega arith) (at 11 (omega arith) (at 12 (omega arith) (at 13 (omega arith) (at 14 (omega arith) (at 15 (omega arith) refl)))))))))))))))
-  where
-    at : (j : ℕ) → j < length l → {r : List ℕ} → drop (suc j) l ≡ r → drop j l ≡ getD l j 0 ∷ r
-    at j g e = drop-cons l j 0 g ∙ ap (λ (x : List ℕ). getD l j 0 ∷ x) e
 
 -- which of the five states a code is
 data Code : ℕ → Type 0 where

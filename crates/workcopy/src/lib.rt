@@ -1,5 +1,5 @@
 // The working copy: 33 blocks of 512 bytes, the seat's and one for each of 32 sheets. Its acceptance, its entries in and out, and create.
-ghost use Prim.Native.Nat.{_+_, _<_, _≤_, ℕ};
+ghost use Prim.Native.Nat.{_+_, _<_};
 ghost use mathlib.Core.Path.{_≡_};
 ghost use lib.ListN.{drop, getD, length, set};
 ghost use lib.Seq.{paste};

@@ -9,7 +9,8 @@ use lib.ListN.{getD, length, set}
 use Rattle.block.proofs.Writing.{written-both, written-none}
 use Rattle.block.specs.Field.{two}
 use Rattle.block.specs.Write.{written}
-use Rattle.model.specs.Blocks.{Line, actionOf, codeOf, linesOf}
+use Rattle.model.specs.Blocks.{Line, linesOf}
+use Rattle.laws.proofs.BlockCodes.{code-back}
 use Rattle.writer.specs.Blocks.{Tells, lineAt, lineBytes, lineIn, linesFrom, noLine}
 use Rattle.writer.specs.declared.Line.{Line as TheLine}
 
@@ -26,14 +27,6 @@ pub line-stores : (d : List ℕ) (at a₁ a₂ a₃ a₄ a₅ a₆ a₇ : ℕ) (
     ≡ written at (lineBytes l) d
 unfolding written lineBytes
 line-stores d at a₁ a₂ a₃ a₄ a₅ a₆ a₇ l e₁ e₂ e₃ e₄ e₅ e₆ e₇ = cc
-
-code-back : (a : ℕ) → 1 ≤ a → a ≤ 4 → codeOf (actionOf a) ≡ a
-code-back zero h g = absurd (omega arith)
-code-back (suc zero) h g = refl
-code-back (suc (suc zero)) h g = refl
-code-back (suc (suc (suc zero))) h g = refl
-code-back (suc (suc (suc (suc zero)))) h g = refl
-code-back (suc (suc (suc (suc (suc a))))) h g = absurd (omega arith)
 
 module _ (ls : List TheLine) (m j : ℕ) where
   -- the next line and those after it

@@ -1,6 +1,5 @@
 // The writing of a commit: one function for each block that is written, and the order in which they are.
-ghost use Prim.Native.Nat.{_*_, _+_, _<_, _≤_, ℕ};
-ghost use mathlib.Core.List.{List};
+ghost use Prim.Native.Nat.{_*_, _+_, _<_, _≤_};
 ghost use mathlib.Core.Path.{_≡_};
 ghost use lib.ListN.{length, take};
 ghost use Rattle.block.specs.Write.{written};

@@ -6,7 +6,6 @@ use Rattle.model.specs.Entry.{Entry}
 use Rattle.model.specs.WorkCopy.{copyBytes, entriesOf, seatOf}
 use Rattle.local.proofs.States.{copy-is, copy-put, not-empty, was-empty, was-nothing}
 use Rattle.local.proofs.Tests.{copy-done, copy-far, copy-missing, copy-occupied, copy-to-far}
-use native.Mathlib.Omega.{arith}
 use borrow.Author.Needs.{needs}
 use Rattle.local.proofs.copy_sheet.Statement.{statement}
 use Rattle.local.proofs.copy_sheet.Tie as tie

@@ -3,7 +3,6 @@
 use mathlib.Core.Path.{_∙_, sym}
 use borrow.Author.Tests.{not-false, not-true}
 use Rattle.local.proofs.Tests.{copied-accepted, move-is, move-refused}
-use native.Mathlib.Omega.{arith}
 use borrow.Author.Needs.{needs}
 use Rattle.local.proofs.move_sheet.Statement.{statement}
 use Rattle.local.proofs.move_sheet.Tie as tie
