@@ -7,3 +7,4 @@ pub mod Copies
 pub mod Stepping
 pub mod Running
 pub mod Machine
+pub mod Demand3

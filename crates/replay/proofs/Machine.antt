@@ -4,7 +4,7 @@ use Prim.Native.Nat.{_*_, _+_, _-_, _/_, _<_, _≤_, suc, zero, ℕ}
 use mathlib.Core.Bool.{true}
 use mathlib.Core.List.{List, [], _++_, _∷_, append-assoc}
 use mathlib.Core.Option.{Option, none, some}
-use mathlib.Core.Path.{_∙_, _≡_, ap, ap₂, refl, subst, sym}
+use mathlib.Core.Path.{_∙_, _≡_, ap, refl, subst, sym}
 use native.Mathlib.Omega.{arith}
 use lib.ListN.{drop, getD, length, length-replicate, length-set, set, take, take-append-drop}
 use Rattle.block.proofs.Writing.{length-written}
@@ -165,20 +165,27 @@ module _ (script store copies old : Bytes) (small : (i : ℕ) → getD script i 
     seats = λ k l. ap seatOf (copy-is store copies k l) ∙ copy-clear script store copies old e k l .1;
   }
 
-  pub machine-ran : {store′ copies′ answers′ : Bytes} → desk store′ copies′ answers′ ≡ ranFrom 0 (turnsOf script) b₀
-      → MachineRan (buffersIn store copies) (turnsOf script) old store′ copies′ answers′
-  machine-ran {store′} {copies′} {answers′} q =
+  -- what the calls on buffers leave, and their answers' records
+  pub left-by : {store′ copies′ answers′ : Bytes} → desk store′ copies′ answers′ ≡ ranFrom 0 (turnsOf script) b₀
+      → (buffersIn store′ copies′ ≡ runOn (buffersIn store copies) (turnsOf script))
+      × (answers′ ≡ recordsOf (answersOn (buffersIn store copies) (turnsOf script)) ++ drop (512 * length (turnsOf script)) old)
+  left-by q =
       let ts : List Turn = turnsOf script in
       let v = valid-script script small (script-good script store copies old e) in
       let n : length ts ≡ length script / 512 = length-turns 0 (length script / 512) script in
       let P = ran-is 0 ts b₀ v (record { all = four-accepted; size = copies-size script store copies old e }) (omega (arith, n, room-enough script store copies old e)) in
-      let M = replayed (buffersIn store copies) four-accepted ts v in
       let z : 512 * (0 + length ts) ≡ 512 * length ts = omega arith in
+      (ap buffersOf q ∙ P .0, ap (λ (d : Desk). d .answers) q ∙ P .1 ∙ ap (λ (m : ℕ). recordsOf (answersOn (buffersIn store copies) ts) ++ drop m old) z)
+
+  pub machine-ran : {store′ copies′ answers′ : Bytes} → desk store′ copies′ answers′ ≡ ranFrom 0 (turnsOf script) b₀
+      → MachineRan (buffersIn store copies) (turnsOf script) old store′ copies′ answers′
+  machine-ran q =
+      let ts : List Turn = turnsOf script in
+      let M = replayed (buffersIn store copies) four-accepted ts (valid-script script small (script-good script store copies old e)) in
+      let L = left-by q in
       record {
-        answer =
-            ap (λ (d : Desk). d .answers) q ∙ P .1
-            ∙ ap₂ (λ (a : List Answer) (m : ℕ). recordsOf a ++ drop m old) (M .0) z;
-        shows = subst (λ (x : Buffers). Shows (blockCount store) x (run (stateIn (buffersIn store copies)) ts)) (sym (ap buffersOf q ∙ P .0)) (M .1);
+        answer = L .1 ∙ ap (λ (a : List Answer). recordsOf a ++ drop (512 * length ts) old) (M .0);
+        shows = subst (λ (x : Buffers). Shows (blockCount store) x (run (stateIn (buffersIn store copies)) ts)) (sym (L .0)) (M .1);
       }
 
   -- what a run asks for
