@@ -7,4 +7,5 @@ pub mod Copies
 pub mod Stepping
 pub mod Running
 pub mod Machine
+pub mod Encoding
 pub mod Demand3

@@ -5,3 +5,4 @@ pub mod Desk
 pub mod Replay
 pub mod Faults
 pub mod Steps
+pub mod Encoding
