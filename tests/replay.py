@@ -5,10 +5,10 @@ replay.py [--seed N] [--lists N] [--only K] [FILE..]
 
 Lists of random calls by four seats, in several scripts on one desk and in one script on another. What a record has no use for holds anything, and so does what
 the answers have beyond the script. Then damaged buffers and bad scripts: the first refusal by tests/model/accept.py and nothing changed, or the model's run.
-Then every fault alone and every two of them, and the example of docs/LAYOUT.md. A FILE has lists made elsewhere, as tests/calls.py reads them.
+Then every fault alone and every two of them, and the worked script of docs/LAYOUT.md. A FILE has lists made elsewhere, as tests/calls.py reads them.
 At the first list that fails its seed and number are printed: `--seed N --only K` runs that list alone.
 """
-import argparse, itertools, json, pathlib, random, sys
+import argparse, itertools, json, pathlib, random, re, sys
 
 sys.path.insert(0, str(pathlib.Path(__file__).resolve().parent))
 sys.path.insert(0, str(pathlib.Path(__file__).resolve().parent / 'model'))
@@ -243,22 +243,24 @@ def every_fault(engine):
 
 
 def example(engine):
-    """The worked example of docs/LAYOUT.md, byte by byte."""
-    def record(places):
+    """The worked script of docs/LAYOUT.md, byte by byte as its table has it."""
+    def record(cell):
         out = bytearray(512)
-        for at, data in places.items():
-            out[at:at + len(bytes.fromhex(data))] = bytes.fromhex(data)
+        for at, data in re.findall(r'(\d+)(?:–\d+)?: `([0-9a-f ]+)`', cell):
+            out[int(at):int(at) + len(bytes.fromhex(data))] = bytes.fromhex(data)
         return bytes(out)
 
-    text = b''.join(map(record, [{0: '01', 1: '02', 2: '01', 4: '05', 16: '41'}, {0: '06', 1: '02', 4: '07', 8: 'ff ff ff ff'},
-                                 {0: '09', 1: '01', 4: '01', 8: '05'}, {0: '0c', 1: '01', 4: '01', 8: '05'}, {0: '03', 1: '04', 4: '05'}]))
-    wanted = b''.join(map(record, [{}, {4: '01'}, {28: '01', 32: '41'}, {4: '02', 8: '07', 12: '01', 16: '01'}, {0: '08'}]))
+    paper = (lists.ROOT / 'docs' / 'LAYOUT.md').read_text().split('## A worked script')[1]
+    rows = [line.split('|')[2:4] for line in paper.splitlines() if line.startswith('|')][2:]
+    text, wanted = (b''.join(record(row[k]) for row in rows) for k in (0, 1))
+    if len(rows) != 5:
+        fail('docs/LAYOUT.md has another worked script')
     desk, answers = Desk.fresh(engine, 4), bytearray(b'\x5a' * len(text))
     if desk.engine.replay(text, desk.store, desk.copies, answers) != ('done',) or answers != wanted:
-        fail('the example of docs/LAYOUT.md')
+        fail('the worked script of docs/LAYOUT.md')
     checks = [(layout.two_at(desk.store, k + 508), layout.two_at(desk.store, k + 510)) for k in range(0, 2048, 512)]
     if checks != [(2, 1015), (69, 34006), (21, 10479), (0, 0)]:
-        fail('the example of docs/LAYOUT.md leaves another store')
+        fail('the worked script of docs/LAYOUT.md leaves another store')
 
 
 def from_file(engine, path):
