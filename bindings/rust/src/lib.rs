@@ -32,6 +32,8 @@
 //! sheetstore::commit(&mut store, &mut copy, 9, sheetstore::ALL).unwrap();
 //! println!("{bytes:?}");
 //! ```
+//!
+//! A list of calls by all four seats is made at once by [`replay`].
 #![deny(missing_docs)]
 
 mod answers;
