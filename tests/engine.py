@@ -94,6 +94,9 @@ class Engine:
         assert r.action == 4 or source == (0, 0)
         return ('log', r.seat, r.stamp, r.changes, (r.action, source if r.action == 4 else None) if r.action else None)
 
+    def replay(self, script, store, copies, answers):
+        return self._answer('replay', script, store, copies, answers)
+
     def call(self, name, store, copy, *args):
         """A call as the model names it, on the two buffers."""
         if name in ('read', 'log'):

@@ -1,4 +1,4 @@
-/* Random calls by four seats, good and damaged buffers, each lent as a piece of memory of its exact size.
+/* Random calls and replays by four seats, good and damaged buffers, each lent as a piece of memory of its exact size.
  *
  *     memory SEED CALLS heap     pieces from malloc, for valgrind and AddressSanitizer to watch
  *     memory SEED CALLS pages    pieces that end, or start, at a page that cannot be touched; those lent as const lie in pages that cannot be written
@@ -17,7 +17,8 @@
 
 #define PAGE 4096
 #define MAX_STORE (4097 * SHEETS_BLOCK)
-#define MAX_COPY (SHEETS_COPY_LEN + SHEETS_BLOCK)
+#define COPIES_LEN (4 * SHEETS_COPY_LEN)
+#define MAX_CALLS 12 /* of a script */
 
 static uint64_t state;
 static bool in_pages;
@@ -69,9 +70,9 @@ static void give_back(struct piece p) {
 
 /* ---- the buffers between calls */
 
-static uint8_t store[MAX_STORE], copies[5][MAX_COPY], hurt_store[MAX_STORE], hurt_copy[MAX_COPY];
+static uint8_t store[MAX_STORE], copies[COPIES_LEN], hurt_store[MAX_STORE], hurt_copies[COPIES_LEN + SHEETS_BLOCK];
 static size_t store_len;
-static unsigned long answered[14];
+static unsigned long answered[14], replayed[14];
 
 static void seal(uint8_t *block) {
     uint32_t a = 0, b = 0;
@@ -137,6 +138,51 @@ static bool call(uint8_t *store_at, size_t store_size, uint8_t *copy_at, size_t 
     return wrong;
 }
 
+/* A script of random calls, now and then with a fault. What a record has no use for holds anything. */
+static size_t make_script(uint8_t *script) {
+    size_t len = SHEETS_RECORD_LEN * below(MAX_CALLS + 1);
+    for (size_t i = 0; i < len; i++) script[i] = (uint8_t)below(256);
+    for (uint8_t *record = script; record < script + len; record += SHEETS_RECORD_LEN) {
+        uint32_t bytes = below(8) ? below(4) : below(497);
+        record[0] = (uint8_t)(below(3) ? 1 + below(12) : 6), record[1] = (uint8_t)(1 + below(4));
+        record[2] = (uint8_t)bytes, record[3] = (uint8_t)(bytes >> 8);
+        if (record[0] != 6 && record[0] != 7 && record[0] != 8) record[4] = (uint8_t)below(6), record[5] = record[6] = record[7] = 0;
+        record[8] = (uint8_t)(record[0] == 6 ? 255 : below(6)), record[9] = record[10] = record[11] = 0;
+    }
+    if (len != 0 && below(8) == 0) {
+        uint8_t *record = script + SHEETS_RECORD_LEN * below((uint32_t)(len / SHEETS_RECORD_LEN));
+        switch (below(4)) {
+        case 0: record[0] = below(2) ? 0 : 13; break;
+        case 1: record[1] = below(2) ? 0 : 5; break;
+        case 2: record[2] = 241, record[3] = 1; break; /* 497 bytes */
+        default: len -= 1 + below(511);
+        }
+    }
+    return len;
+}
+
+/* A replay on pieces of memory with these buffers; what it leaves goes back into them. Answers whether a refused one changed one. */
+static bool replay(uint8_t *store_at, size_t store_size, uint8_t *copies_at, size_t copies_size) {
+    static uint8_t script[MAX_CALLS * SHEETS_RECORD_LEN], before[(MAX_CALLS + 2) * SHEETS_RECORD_LEN];
+    size_t script_len = make_script(script), rest = below(2) ? below(1024) : 0;
+    size_t answers_len = below(8) || script_len == 0 ? script_len + rest : script_len - 1 - below((uint32_t)script_len);
+    for (size_t i = 0; i < answers_len; i++) before[i] = (uint8_t)below(256);
+
+    struct piece t = lend(script, script_len, false), s = lend(store_at, store_size, true), c = lend(copies_at, copies_size, true);
+    struct piece a = lend(before, answers_len, true);
+    uint32_t refusal = sheets_replay(t.bytes, t.len, s.bytes, s.len, c.bytes, c.len, a.bytes, a.len).refusal;
+    replayed[refusal]++;
+    bool wrong = refusal != 0 && (memcmp(s.bytes, store_at, s.len) != 0 || memcmp(c.bytes, copies_at, c.len) != 0 || memcmp(a.bytes, before, a.len) != 0);
+    if (refusal == 0) {
+        wrong |= memcmp(a.bytes + script_len, before + script_len, answers_len - script_len) != 0;
+        for (size_t at = 0; at < script_len; at += SHEETS_RECORD_LEN) wrong |= a.bytes[at] > 13;
+    }
+    memcpy(store_at, s.bytes, s.len);
+    memcpy(copies_at, c.bytes, c.len);
+    give_back(t), give_back(s), give_back(c), give_back(a);
+    return wrong;
+}
+
 /* Fresh buffers, made in pieces that hold nothing yet. */
 static bool fresh(size_t blocks) {
     store_len = blocks * SHEETS_BLOCK;
@@ -147,10 +193,16 @@ static bool fresh(size_t blocks) {
     for (uint32_t seat = 1; seat <= 4; seat++) {
         struct piece c = lend(NULL, SHEETS_COPY_LEN, true);
         wrong |= sheets_create_copy(c.bytes, c.len, seat).refusal != 0;
-        memcpy(copies[seat], c.bytes, c.len);
+        memcpy(copies + (seat - 1) * SHEETS_COPY_LEN, c.bytes, c.len);
         give_back(c);
     }
     return wrong;
+}
+
+static void tell(const char *what, const unsigned long *by_refusal) {
+    printf("%s: done %lu; refused", what, by_refusal[0]);
+    for (int n = 1; n < 14; n++) printf("%s %d: %lu", n == 1 ? "" : ",", n, by_refusal[n]);
+    printf("\n");
 }
 
 int main(int argc, char **argv) {
@@ -165,25 +217,25 @@ int main(int argc, char **argv) {
     for (unsigned long k = 0; k < count; k++) {
         bool wrong = false;
         if (k % 200 == 0) wrong |= fresh(sizes[below(64) == 0 ? 8 : below(8)]);
-        uint8_t *copy = copies[1 + below(4)];
+        bool replays = below(8) == 0; /* else one call, with the copy of one seat */
+        uint8_t *copy = replays ? copies : copies + below(4) * SHEETS_COPY_LEN;
+        size_t copy_len = replays ? COPIES_LEN : SHEETS_COPY_LEN;
         if (below(4) == 0) {
-            size_t s = store_len, c = SHEETS_COPY_LEN;
+            size_t s = store_len, c = copy_len;
             memcpy(hurt_store, store, s);
-            memcpy(hurt_copy, copy, c);
+            memcpy(hurt_copies, copy, c);
             if (below(2)) damage(hurt_store, &s);
-            if (below(2)) damage(hurt_copy, &c);
-            wrong |= call(hurt_store, s, hurt_copy, c);
+            if (below(2)) damage(hurt_copies, &c);
+            wrong |= (replays ? replay : call)(hurt_store, s, hurt_copies, c);
         } else {
-            wrong |= call(store, store_len, copy, SHEETS_COPY_LEN);
+            wrong |= (replays ? replay : call)(store, store_len, copy, copy_len);
         }
         if (wrong) {
             printf("a buffer is not as it should be: seed %lu, call %lu\n", seed, k);
             return 1;
         }
     }
-    printf("%lu calls: done", count);
-    printf(" %lu; refused", answered[0]);
-    for (int n = 1; n < 14; n++) printf("%s %d: %lu", n == 1 ? "" : ",", n, answered[n]);
-    printf("\n");
+    tell("calls", answered);
+    tell("replays", replayed);
     return 0;
 }

@@ -1,4 +1,4 @@
-/* Two seats at one store: add, commit, update, read back, and two refusals. Exits 1 at the first answer that is not as expected.
+/* Two seats at one store: add, commit, update, read back, and two refusals; then two calls as one script. Exits 1 at the first answer that is not as expected.
  *
  *     rt staticlib sheetstore
  *     cc -Wall -Wextra -Werror -Iinclude examples/c/sheets.c target/staticlib/libsheetstore.a -o target/sheets && target/sheets
@@ -55,6 +55,42 @@ static sheets_answer update(uint8_t *copy, uint32_t revision) {
     return sheets_update(store, sizeof store, copy, SHEETS_COPY_LEN, ALL_SHEETS, revision);
 }
 
+/* The record of a call. */
+static void put_call(uint8_t *record, uint8_t kind, uint8_t seat, uint32_t first, uint32_t second, const char *text) {
+    size_t len = strlen(text);
+    memset(record, 0, SHEETS_RECORD_LEN);
+    record[0] = kind, record[1] = seat;
+    record[2] = (uint8_t)len, record[3] = (uint8_t)(len >> 8);
+    for (int i = 0; i < 4; i++) record[4 + i] = (uint8_t)(first >> 8 * i), record[8 + i] = (uint8_t)(second >> 8 * i);
+    memcpy(record + 16, text, len);
+}
+
+static uint32_t number_at(const uint8_t *bytes) {
+    return bytes[0] | (uint32_t)bytes[1] << 8 | (uint32_t)bytes[2] << 16 | (uint32_t)bytes[3] << 24;
+}
+
+/* The refusal and the value of an answer's record. */
+static sheets_answer answer_in(const uint8_t *record) {
+    return (sheets_answer){number_at(record), number_at(record + 4)};
+}
+
+/* An add and a commit by seat 3, as one script with the copies of all four seats. */
+static void replay(void) {
+    static uint8_t copies[4 * SHEETS_COPY_LEN], script[2 * SHEETS_RECORD_LEN], answers[2 * SHEETS_RECORD_LEN];
+    memcpy(copies, pump_room, sizeof pump_room);
+    memcpy(copies + SHEETS_COPY_LEN, office, sizeof office);
+    expect("create seat 3's copy", sheets_create_copy(copies + 2 * SHEETS_COPY_LEN, SHEETS_COPY_LEN, 3), 0, 0);
+    expect("create seat 4's copy", sheets_create_copy(copies + 3 * SHEETS_COPY_LEN, SHEETS_COPY_LEN, 4), 0, 0);
+
+    put_call(script, 1, 3, 6, 0, "pH 7.2");
+    put_call(script + SHEETS_RECORD_LEN, 6, 3, 400, ALL_SHEETS, "");
+    sheets_answer all = sheets_replay(script, sizeof script, store, sizeof store, copies, sizeof copies, answers, sizeof answers);
+    expect("seat 3 adds sheet 6 and commits, in one script", all, 0, 0);
+    expect("the add's answer", answer_in(answers), 0, 0);
+    expect("the commit's answer", answer_in(answers + SHEETS_RECORD_LEN), 0, 3);
+    expect_text("sheet 6 at revision 3", store, sheets_read(store, sizeof store, 3, 6), "pH 7.2");
+}
+
 int main(void) {
     expect("create the store", sheets_create_store(store, sizeof store), 0, 0);
     expect("create seat 1's copy", sheets_create_copy(pump_room, sizeof pump_room, 1), 0, 0);
@@ -82,5 +118,6 @@ int main(void) {
         return 1;
     }
     printf("log of revision 2: seat %u, stamp %u, action %u\n", entry.seat, entry.stamp, entry.action);
+    replay();
     return 0;
 }

@@ -1,5 +1,6 @@
-"""Acceptance in plain Python, made apart from the engine: which of refusals 1 to 6 comes first for two buffers, or 0."""
+"""Acceptance in plain Python, made apart from the engine: which of refusals 1 to 6 comes first for two buffers, or 0; and which of 1 to 7 for a replay."""
 from layout import BLOCK, COPY_LEN, commit_block, content, entry_block, entry_of, label, sealed, two_at
+from script import records_ok
 from sheets import ADD, CHANGE, COPY, DELETE
 
 BLANK = bytes(BLOCK)
@@ -106,14 +107,32 @@ def fits(sheet, entry, trees):
     return True
 
 
-def refusal(store, copy=None):
-    """The first of 1 to 6 that holds for a call that takes the store, or the store and the copy; 0 for none."""
-    number, trees = store_refusal(store)
-    if number or copy is None:
-        return number
+def copy_refusal(copy, trees):
+    """The first of 4 to 6 that holds for a copy beside a store with these trees, or 0."""
     if len(copy) != COPY_LEN:
         return 4
     blocks = cut(copy)
     if not checked(blocks) or not 1 <= blocks[0][1] <= 4 or blocks[0] != sealed([4, blocks[0][1]]) or not all(map(entry_lawful, blocks[1:])):
         return 5
     return 0 if all(fits(i, entry_of(b), trees) for i, b in enumerate(blocks[1:])) else 6
+
+
+def refusal(store, copy=None):
+    """The first of 1 to 6 that holds for a call that takes the store, or the store and the copy; 0 for none."""
+    number, trees = store_refusal(store)
+    return number if number or copy is None else copy_refusal(copy, trees)
+
+
+def replay_refusal(script, store, copies, answers):
+    """The first of 1 to 7 that holds for a replay; 0 for none."""
+    number, trees = store_refusal(store)
+    if number:
+        return number
+    if len(copies) != 4 * COPY_LEN:
+        return 4
+    for k in range(4):
+        copy = copies[k * COPY_LEN:(k + 1) * COPY_LEN]
+        number = copy_refusal(copy, trees) or 7 * (copy[1] != k + 1)
+        if number:
+            return number
+    return 0 if records_ok(script) and len(answers) >= len(script) else 7

@@ -32,17 +32,23 @@
 //! sheetstore::commit(&mut store, &mut copy, 9, sheetstore::ALL).unwrap();
 //! println!("{bytes:?}");
 //! ```
+//!
+//! A list of calls by all four seats is made at once by [`replay`].
 #![deny(missing_docs)]
 
 mod answers;
 mod ffi;
+mod script;
 
 pub use answers::{Action, LogEntry, Refusal, Status};
+pub use script::{Answers, Call, Reply, Script, MAX_BYTES, RECORD_LEN};
 
 /// Bytes of a block.
 pub const BLOCK: usize = 512;
 /// Bytes of a working copy.
 pub const COPY_LEN: usize = 33 * BLOCK;
+/// Bytes of the working copies of seats 1 to 4 side by side.
+pub const COPIES_LEN: usize = 4 * COPY_LEN;
 /// The mask that chooses every sheet; bit i chooses sheet i.
 pub const ALL: u32 = u32::MAX;
 
@@ -135,4 +141,47 @@ pub fn status(store: &[u8], copy: &[u8], sheet: u32) -> Result<Status, Refusal> 
 /// What a revision is, and what it did to a sheet.
 pub fn log(store: &[u8], revision: u32, sheet: u32) -> Result<LogEntry, Refusal> {
     answers::logged(unsafe { ffi::sheets_log(store.as_ptr(), store.len(), revision, sheet) })
+}
+
+/// Makes the calls of a script in order, on one store and the working copies of seats 1 to 4 side by side. The buffers are checked once. The answers need
+/// [`RECORD_LEN`] bytes for each call; what they have beyond that is kept. Refused calls among the others change nothing, and the rest are made all the same.
+///
+/// Where the buffers are refused, no call is made: refusals 1 to 6 as for any call, the copies in order; [`Refusal::Range`] for a copy that is not of its
+/// place's seat, and for answers that are too short.
+///
+/// ```
+/// use sheetstore::{self as sheets, Call, Refusal, Reply, Script, ALL, BLOCK, COPIES_LEN, COPY_LEN, RECORD_LEN};
+///
+/// let (mut store, mut copies) = (vec![0; 32 * BLOCK], vec![0; COPIES_LEN]);
+/// sheets::create_store(&mut store)?;
+/// for (seat, copy) in (1..).zip(copies.chunks_exact_mut(COPY_LEN)) {
+///     sheets::create_copy(copy, seat)?;
+/// }
+///
+/// let mut script = Script::new();
+/// script.push(2, Call::Add { sheet: 5, bytes: b"stop after 30 s" })?;
+/// script.push(2, Call::Commit { stamp: 7, mask: ALL })?;
+/// script.push(3, Call::Show { sheet: 5 })?;
+/// script.push(3, Call::Delete { sheet: 6 })?;
+///
+/// let mut answers = vec![0; script.len() * RECORD_LEN];
+/// let said: Vec<_> = sheets::replay(&script, &mut store, &mut copies, &mut answers)?.collect();
+/// assert_eq!(said, [Ok(Reply::Done), Ok(Reply::Revision(1)), Ok(Reply::Bytes(b"stop after 30 s")), Err(Refusal::Missing)]);
+/// # Ok::<(), Refusal>(())
+/// ```
+pub fn replay<'a>(script: &'a Script, store: &mut [u8], copies: &mut [u8], answers: &'a mut [u8]) -> Result<Answers<'a>, Refusal> {
+    let text = script.as_bytes();
+    done(unsafe {
+        ffi::sheets_replay(
+            text.as_ptr(),
+            text.len(),
+            store.as_mut_ptr(),
+            store.len(),
+            copies.as_mut_ptr(),
+            copies.len(),
+            answers.as_mut_ptr(),
+            answers.len(),
+        )
+    })?;
+    Ok(Answers::new(script, answers))
 }

@@ -1,0 +1,218 @@
+//! Lists of calls in bytes, and their answers: the records of `docs/LAYOUT.md`.
+
+use crate::answers::{self, LogEntry, Refusal, Status};
+use crate::ffi;
+use std::iter::Zip;
+use std::slice::ChunksExact;
+
+/// Bytes of the record of a call, and of the record of an answer.
+pub const RECORD_LEN: usize = 512;
+/// The most bytes that a call of a script can take.
+pub const MAX_BYTES: usize = 496;
+
+const BYTES_AT: usize = 16;
+const ANSWER_BYTES_AT: usize = 32;
+
+/// A call of a script, as the function of its name makes it.
+#[derive(Clone, Copy, Debug, PartialEq, Eq, Hash)]
+pub enum Call<'a> {
+    /// [`add`](crate::add)
+    Add {
+        /// The sheet.
+        sheet: u32,
+        /// The bytes that it gets.
+        bytes: &'a [u8],
+    },
+    /// [`edit`](crate::edit)
+    Edit {
+        /// The sheet.
+        sheet: u32,
+        /// The bytes that it gets.
+        bytes: &'a [u8],
+    },
+    /// [`delete`](crate::delete)
+    Delete {
+        /// The sheet.
+        sheet: u32,
+    },
+    /// [`copy_sheet`](crate::copy_sheet)
+    Copy {
+        /// The sheet to copy.
+        from: u32,
+        /// The sheet that is made.
+        to: u32,
+    },
+    /// [`move_sheet`](crate::move_sheet)
+    Move {
+        /// The sheet to move.
+        from: u32,
+        /// The sheet that is made.
+        to: u32,
+    },
+    /// [`commit`](crate::commit)
+    Commit {
+        /// The commit's stamp.
+        stamp: u32,
+        /// The chosen sheets.
+        mask: u32,
+    },
+    /// [`update`](crate::update)
+    Update {
+        /// The chosen sheets.
+        mask: u32,
+        /// The revision.
+        revision: u32,
+    },
+    /// [`revert`](crate::revert)
+    Revert {
+        /// The chosen sheets.
+        mask: u32,
+    },
+    /// [`read`](crate::read)
+    Read {
+        /// The revision.
+        revision: u32,
+        /// The sheet.
+        sheet: u32,
+    },
+    /// [`show`](crate::show)
+    Show {
+        /// The sheet.
+        sheet: u32,
+    },
+    /// [`status`](crate::status)
+    Status {
+        /// The sheet.
+        sheet: u32,
+    },
+    /// [`log`](crate::log)
+    Log {
+        /// The revision.
+        revision: u32,
+        /// The sheet.
+        sheet: u32,
+    },
+}
+
+/// A list of calls by seats 1 to 4, for [`replay`](crate::replay).
+#[derive(Clone, Debug, Default, PartialEq, Eq)]
+pub struct Script {
+    records: Vec<u8>,
+}
+
+impl Script {
+    /// No calls.
+    pub fn new() -> Self {
+        Self::default()
+    }
+
+    /// Adds a call by a seat at the end. A seat that is not 1 to 4, and more than [`MAX_BYTES`] bytes, are refused with [`Refusal::Range`].
+    /// Read and log need no seat, and any of the four will do.
+    pub fn push(&mut self, seat: u32, call: Call<'_>) -> Result<(), Refusal> {
+        let (kind, first, second, bytes): (u8, u32, u32, &[u8]) = match call {
+            Call::Add { sheet, bytes } => (1, sheet, 0, bytes),
+            Call::Edit { sheet, bytes } => (2, sheet, 0, bytes),
+            Call::Delete { sheet } => (3, sheet, 0, &[]),
+            Call::Copy { from, to } => (4, from, to, &[]),
+            Call::Move { from, to } => (5, from, to, &[]),
+            Call::Commit { stamp, mask } => (6, stamp, mask, &[]),
+            Call::Update { mask, revision } => (7, mask, revision, &[]),
+            Call::Revert { mask } => (8, mask, 0, &[]),
+            Call::Read { revision, sheet } => (9, revision, sheet, &[]),
+            Call::Show { sheet } => (10, sheet, 0, &[]),
+            Call::Status { sheet } => (11, sheet, 0, &[]),
+            Call::Log { revision, sheet } => (12, revision, sheet, &[]),
+        };
+        if !(1..=4).contains(&seat) || bytes.len() > MAX_BYTES {
+            return Err(Refusal::Range);
+        }
+        let mut record = [0; RECORD_LEN];
+        record[0] = kind;
+        record[1] = seat as u8;
+        record[2..4].copy_from_slice(&(bytes.len() as u16).to_le_bytes());
+        record[4..8].copy_from_slice(&first.to_le_bytes());
+        record[8..12].copy_from_slice(&second.to_le_bytes());
+        record[BYTES_AT..BYTES_AT + bytes.len()].copy_from_slice(bytes);
+        self.records.extend_from_slice(&record);
+        Ok(())
+    }
+
+    /// The number of calls.
+    pub fn len(&self) -> usize {
+        self.records.len() / RECORD_LEN
+    }
+
+    /// Whether there are no calls.
+    pub fn is_empty(&self) -> bool {
+        self.records.is_empty()
+    }
+
+    /// The records of the calls.
+    pub fn as_bytes(&self) -> &[u8] {
+        &self.records
+    }
+}
+
+/// What a call of a script answered, where it was not refused.
+#[derive(Clone, Copy, Debug, PartialEq, Eq, Hash)]
+pub enum Reply<'a> {
+    /// It did its work, and has nothing to tell.
+    Done,
+    /// The revision of a commit.
+    Revision(u32),
+    /// The status of a sheet's entry.
+    Status(Status),
+    /// The bytes of a read or a show: a part of the answers.
+    Bytes(&'a [u8]),
+    /// What log tells.
+    Log(LogEntry),
+}
+
+/// The answers of a script's calls, in order.
+#[derive(Clone, Debug)]
+pub struct Answers<'a> {
+    records: Zip<ChunksExact<'a, u8>, ChunksExact<'a, u8>>,
+}
+
+impl<'a> Answers<'a> {
+    pub(crate) fn new(script: &'a Script, answers: &'a [u8]) -> Self {
+        Self { records: script.records.chunks_exact(RECORD_LEN).zip(answers.chunks_exact(RECORD_LEN)) }
+    }
+}
+
+impl<'a> Iterator for Answers<'a> {
+    type Item = Result<Reply<'a>, Refusal>;
+
+    fn next(&mut self) -> Option<Self::Item> {
+        self.records.next().map(|(call, answer)| reply(call[0], answer))
+    }
+
+    fn size_hint(&self) -> (usize, Option<usize>) {
+        self.records.size_hint()
+    }
+}
+
+impl ExactSizeIterator for Answers<'_> {}
+
+/// The answer of a call of this kind.
+fn reply(kind: u8, record: &[u8]) -> Result<Reply<'_>, Refusal> {
+    let number = |at: usize| u32::from_le_bytes([record[at], record[at + 1], record[at + 2], record[at + 3]]);
+    if let Some(refusal) = answers::refused(number(0)) {
+        return Err(refusal);
+    }
+    Ok(match kind {
+        6 => Reply::Revision(number(4)),
+        9 | 10 => Reply::Bytes(&record[ANSWER_BYTES_AT..ANSWER_BYTES_AT + number(28) as usize]),
+        11 => Reply::Status(answers::status(number(4))),
+        12 => Reply::Log(answers::logged(ffi::LogEntry {
+            refusal: 0,
+            seat: number(4),
+            stamp: number(8),
+            changes: number(12),
+            action: number(16),
+            source_sheet: number(20),
+            source_revision: number(24),
+        })?),
+        _ => Reply::Done,
+    })
+}

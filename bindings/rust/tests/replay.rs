@@ -1,0 +1,131 @@
+//! Replay: every kind of call and of answer, held to the calls one by one, and the refusals.
+
+use sheetstore::{self as sheets, Action, Call, LogEntry, Refusal, Reply, Script, Status, ALL, BLOCK, COPIES_LEN, COPY_LEN, MAX_BYTES, RECORD_LEN};
+
+fn fresh(blocks: usize) -> (Vec<u8>, Vec<u8>) {
+    let (mut store, mut copies) = (vec![0x5a; blocks * BLOCK], vec![0x5a; COPIES_LEN]);
+    sheets::create_store(&mut store).unwrap();
+    for (seat, copy) in (1..).zip(copies.chunks_exact_mut(COPY_LEN)) {
+        sheets::create_copy(copy, seat).unwrap();
+    }
+    (store, copies)
+}
+
+fn script_of(calls: &[(u32, Call)]) -> Script {
+    let mut script = Script::new();
+    for &(seat, call) in calls {
+        script.push(seat, call).unwrap();
+    }
+    script
+}
+
+/// One call, by the function of its name.
+fn alone<'a>(store: &'a mut [u8], copies: &'a mut [u8], seat: u32, call: Call) -> Result<Reply<'a>, Refusal> {
+    let at = (seat as usize - 1) * COPY_LEN;
+    let copy = &mut copies[at..at + COPY_LEN];
+    match call {
+        Call::Add { sheet, bytes } => sheets::add(store, copy, sheet, bytes).map(|_| Reply::Done),
+        Call::Edit { sheet, bytes } => sheets::edit(store, copy, sheet, bytes).map(|_| Reply::Done),
+        Call::Delete { sheet } => sheets::delete(store, copy, sheet).map(|_| Reply::Done),
+        Call::Copy { from, to } => sheets::copy_sheet(store, copy, from, to).map(|_| Reply::Done),
+        Call::Move { from, to } => sheets::move_sheet(store, copy, from, to).map(|_| Reply::Done),
+        Call::Commit { stamp, mask } => sheets::commit(store, copy, stamp, mask).map(Reply::Revision),
+        Call::Update { mask, revision } => sheets::update(store, copy, mask, revision).map(|_| Reply::Done),
+        Call::Revert { mask } => sheets::revert(store, copy, mask).map(|_| Reply::Done),
+        Call::Read { revision, sheet } => sheets::read(store, revision, sheet).map(Reply::Bytes),
+        Call::Show { sheet } => sheets::show(store, copy, sheet).map(Reply::Bytes),
+        Call::Status { sheet } => sheets::status(store, copy, sheet).map(Reply::Status),
+        Call::Log { revision, sheet } => sheets::log(store, revision, sheet).map(Reply::Log),
+    }
+}
+
+/// Two seats, every kind of call.
+fn every_kind() -> Vec<(u32, Call<'static>)> {
+    vec![
+        (2, Call::Add { sheet: 5, bytes: b"A" }),
+        (2, Call::Commit { stamp: 7, mask: ALL }),
+        (4, Call::Update { mask: 1 << 5, revision: 1 }),
+        (4, Call::Edit { sheet: 5, bytes: b"longer" }),
+        (4, Call::Status { sheet: 5 }),
+        (4, Call::Revert { mask: ALL }),
+        (4, Call::Copy { from: 5, to: 31 }),
+        (4, Call::Move { from: 5, to: 6 }),
+        (4, Call::Commit { stamp: u32::MAX, mask: ALL }),
+        (1, Call::Log { revision: 2, sheet: 6 }),
+        (1, Call::Read { revision: 2, sheet: 31 }),
+        (2, Call::Show { sheet: 5 }),
+        (4, Call::Delete { sheet: 31 }),
+        (4, Call::Add { sheet: 0, bytes: &[1; MAX_BYTES] }),
+        (3, Call::Edit { sheet: 0, bytes: b"" }),
+    ]
+}
+
+#[test]
+fn a_script_is_its_calls_one_by_one() {
+    let (calls, (mut store, mut copies)) = (every_kind(), fresh(16));
+    let script = script_of(&calls);
+    let mut answers = vec![0x5a; script.len() * RECORD_LEN + 3];
+    let said: Vec<_> = sheets::replay(&script, &mut store, &mut copies, &mut answers).unwrap().collect();
+    assert_eq!(said.len(), calls.len());
+    let (mut other_store, mut other_copies) = fresh(16);
+    for (&(seat, call), &got) in calls.iter().zip(&said) {
+        assert_eq!(got, alone(&mut other_store, &mut other_copies, seat, call), "{call:?}");
+    }
+    assert!(store == other_store && copies == other_copies);
+    assert_eq!(said[4], Ok(Reply::Status(Status::Modified)));
+    assert_eq!(said[8], Ok(Reply::Revision(2)));
+    let action = Some(Action::Copy { sheet: 5, revision: 1 });
+    assert_eq!(said[9], Ok(Reply::Log(LogEntry { seat: 4, stamp: u32::MAX, changes: 3, action })));
+    assert_eq!(said[10], Ok(Reply::Bytes(b"A")));
+    assert_eq!(said[13], Err(Refusal::Range));
+    assert_eq!(said[14], Err(Refusal::Missing));
+    assert_eq!(answers[script.len() * RECORD_LEN..], [0x5a; 3]);
+}
+
+#[test]
+fn the_answers_know_their_number() {
+    let (script, (mut store, mut copies)) = (script_of(&every_kind()), fresh(16));
+    let mut answers = vec![0; script.len() * RECORD_LEN];
+    assert_eq!(sheets::replay(&script, &mut store, &mut copies, &mut answers).unwrap().len(), 15);
+    assert_eq!(sheets::replay(&Script::new(), &mut store, &mut copies, &mut []).unwrap().len(), 0);
+}
+
+#[test]
+fn push_refuses_what_a_record_cannot_hold() {
+    let mut script = Script::new();
+    assert_eq!(script.push(0, Call::Show { sheet: 1 }), Err(Refusal::Range));
+    assert_eq!(script.push(5, Call::Show { sheet: 1 }), Err(Refusal::Range));
+    assert_eq!(script.push(257, Call::Show { sheet: 1 }), Err(Refusal::Range));
+    assert_eq!(script.push(1, Call::Add { sheet: 1, bytes: &[0; MAX_BYTES + 1] }), Err(Refusal::Range));
+    assert!(script.is_empty());
+    assert_eq!(script.push(1, Call::Add { sheet: 1, bytes: &[0; MAX_BYTES] }), Ok(()));
+    assert_eq!((script.len(), script.as_bytes().len()), (1, RECORD_LEN));
+}
+
+/// Damages a store, four copies or the room for the answers.
+type Change<'a> = &'a dyn Fn(&mut Vec<u8>, &mut Vec<u8>, &mut Vec<u8>);
+
+#[test]
+fn a_refused_script_changes_nothing() {
+    let (script, (store, copies)) = (script_of(&every_kind()), fresh(16));
+    let refused = |number: u32, change: Change| {
+        let (mut s, mut c, mut a) = (store.clone(), copies.clone(), vec![0x5a; script.len() * RECORD_LEN]);
+        change(&mut s, &mut c, &mut a);
+        let before = (s.clone(), c.clone(), a.clone());
+        assert_eq!(sheets::replay(&script, &mut s, &mut c, &mut a).unwrap_err().number(), number);
+        assert!((s, c, a) == before, "refusal {number} changed a buffer");
+    };
+    refused(1, &|s, _, _| s.truncate(BLOCK));
+    refused(2, &|s, _, _| s[600] = 1);
+    refused(3, &|s, _, _| s.copy_within(0..BLOCK, BLOCK));
+    refused(4, &|_, c, _| c.truncate(COPY_LEN));
+    refused(5, &|_, c, _| c[3 * COPY_LEN] = 0);
+    refused(6, &|_, c, _| {
+        let (mut other, mut copy) = fresh(4);
+        sheets::add(&other, &mut copy[..COPY_LEN], 0, b"").unwrap();
+        sheets::commit(&mut other, &mut copy[..COPY_LEN], 0, ALL).unwrap();
+        c[..COPY_LEN].copy_from_slice(&copy[..COPY_LEN]);
+    });
+    refused(7, &|_, c, _| c.rotate_left(COPY_LEN));
+    refused(7, &|_, _, a| a.truncate(script.len() * RECORD_LEN - 1));
+}

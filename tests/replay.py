@@ -1,0 +1,311 @@
+#!/usr/bin/env python3
+"""Scripts through the engine's C library, held to the model: every answer and every byte of the store, the copies and the answers.
+
+replay.py [--seed N] [--lists N] [--only K] [FILE..]
+
+Lists of random calls by four seats, in several scripts on one desk and in one script on another. What a record has no use for holds anything, and so does what
+the answers have beyond the script. Then damaged buffers and bad scripts: the first refusal by tests/model/accept.py and nothing changed, or the model's run.
+Then every fault alone and every two of them, and the worked script of docs/LAYOUT.md. A FILE has lists made elsewhere, as tests/calls.py reads them.
+At the first list that fails its seed and number are printed: `--seed N --only K` runs that list alone.
+"""
+import argparse, itertools, json, pathlib, random, re, sys
+
+sys.path.insert(0, str(pathlib.Path(__file__).resolve().parent))
+sys.path.insert(0, str(pathlib.Path(__file__).resolve().parent / 'model'))
+import accept, layout, lists, script, sheets
+from calls import damage
+from engine import Engine
+
+SEATS = (1, 2, 3, 4)
+ALL = 0xffffffff
+scripts = calls = failed = 0
+
+
+def fail(what):
+    global failed
+    failed += 1
+    if failed <= 10:
+        print(what if len(what) < 400 else what[:400] + ' ..')
+
+
+def cut(copies):
+    return {k: copies[(k - 1) * layout.COPY_LEN:k * layout.COPY_LEN] for k in SEATS}
+
+
+class Desk:
+    """A store and four copies side by side."""
+
+    def __init__(self, engine, store, copies):
+        self.engine, self.store, self.copies = engine, bytearray(store), bytearray(copies)
+
+    @classmethod
+    def fresh(cls, engine, blocks):
+        empty = sheets.Machine(blocks)
+        return cls(engine, layout.store_bytes(blocks, []), b''.join(layout.copy_bytes(k, empty.seats[k]) for k in SEATS))
+
+    def replay(self, what, text, wanted, rest=b''):
+        """A script that must be done, with these answers; the answers' rest must stay."""
+        global scripts, calls
+        scripts += 1
+        calls += len(wanted)
+        answers = bytearray(b'\x5a' * len(text) + rest)
+        said = self.engine.replay(text, self.store, self.copies, answers)
+        if said != ('done',):
+            fail(f'{what}: {said}')
+        for n, a in enumerate(wanted):
+            got = bytes(answers[n * 512:n * 512 + 512])
+            if got != script.answer_record(a):
+                fail(f'{what}, call {n}: {got.hex()}, not {a}')
+        if answers[len(text):] != rest:
+            fail(f'{what} changed the rest of the answers')
+
+    def refused(self, what, text, answers, number):
+        """A script that must be refused, with nothing changed."""
+        global scripts
+        scripts += 1
+        before = bytes(self.store), bytes(self.copies), bytes(answers)
+        said = self.engine.replay(text, self.store, self.copies, answers)
+        if said != ('no', number):
+            fail(f'{what}: {said}, not {number}')
+        if (bytes(self.store), bytes(self.copies), bytes(answers)) != before:
+            fail(f'{what} changed a buffer')
+
+    def held_to(self, what, model):
+        """Every byte of the layouts that the calls write."""
+        if self.store != layout.store_bytes(model.blocks, model.history):
+            fail(f'{what} leaves another store')
+        for k, copy in cut(self.copies).items():
+            if copy != layout.copy_bytes(k, model.seats[k]):
+                fail(f'{what} leaves another copy of seat {k}')
+
+
+def random_record(rng, call):
+    return script.call_record(*call, unused=rng.choice([bytes(512), rng.randbytes(512)]))
+
+
+def random_calls(rng, model, count):
+    """Calls, and the answers of the model, which makes them."""
+    some, answers = [], []
+    for _ in range(count):
+        c = lists.random_call(rng, model)
+        if c[0] in ('add', 'edit') and rng.random() < 0.02:
+            c = (*c[:-1], rng.randbytes(rng.randint(477, script.MOST)))
+        some.append(c)
+        answers.append(model.call(*c))
+    return some, answers
+
+
+def random_list(engine, rng):
+    """A list in several scripts on one desk, and in one script on another."""
+    blocks = rng.choice([2, 3, 4, 8, 12, 32, 64, 65, 200, 1000, 4096])
+    model, desk, whole, said = sheets.Machine(blocks), Desk.fresh(engine, blocks), b'', []
+    for n in range(rng.randint(1, 8)):
+        some, answers = random_calls(rng, model, rng.choice([0, 1, 2, 20, 60]))
+        text = b''.join(random_record(rng, c) for c in some)
+        desk.replay(f'script {n}', text, answers, rng.randbytes(rng.choice([0, 1, 511, 512, 1000])))
+        desk.held_to(f'script {n}', model)
+        whole, said = whole + text, said + answers
+    other = Desk.fresh(engine, blocks)
+    other.replay('the whole script', whole, said, rng.randbytes(rng.choice([0, 700])))
+    other.held_to('the whole script', model)
+    return desk, model
+
+
+def filling(engine):
+    """One script that fills a store of 4,096 blocks to its last block."""
+    model, some = sheets.Machine(4096), []
+    for n in range(124):
+        some += [('edit' if n else 'add', 1, i, bytes([n])) for i in range(32)] + [('commit', 1, n, ALL)]
+    some += [('edit', 1, 0, b'x'), ('commit', 1, 124, ALL), ('edit', 1, 0, b'y'), ('commit', 1, 125, ALL), ('delete', 1, 0), ('commit', 1, 126, ALL)]
+    some += [('delete', 1, 1), ('commit', 1, 127, ALL)]
+    said, text = [model.call(*c) for c in some], b''.join(script.call_record(*c) for c in some)
+    if model.used != 4096 or said[-1] != ('no', 13):
+        fail('the script that fills a store does not')
+    desk = Desk.fresh(engine, 4096)
+    desk.replay('the script that fills a store', text, said)
+    desk.held_to('the script that fills a store', model)
+
+
+def bad_script(rng, text):
+    """The script with a fault that makes it bad."""
+    text = bytearray(text)
+    at = rng.randrange(len(text) // 512) * 512
+    fault = rng.choice(['kind', 'seat', 'bytes', 'length'])
+    if fault == 'kind':
+        text[at] = rng.choice([0, 13, 255])
+    elif fault == 'seat':
+        text[at + 1] = rng.choice([0, 5, 255])
+    elif fault == 'bytes':
+        text[at + 2:at + 4] = rng.choice([497, 512, 65535]).to_bytes(2, 'little')
+    elif rng.random() < 0.5:
+        del text[-rng.choice([1, 511]):]
+    else:
+        text.extend(bytes(rng.choice([1, 511])))
+    return bytes(text)
+
+
+def damaged(engine, rng, good, model):
+    """Buffers that are damaged, in any number of places: the refusal that comes first, or the model's run."""
+    for n in range(25 if model.blocks <= 200 else 5):
+        store, copies = bytearray(good.store), {k: bytearray(c) for k, c in cut(good.copies).items()}
+        for _ in range(rng.choice([0, 1, 1, 2])):
+            damage(rng, store, copies[rng.choice(SEATS)], model.last())
+        if rng.random() < 0.1:
+            a, b = rng.sample(SEATS, 2)
+            copies[a], copies[b] = copies[b], copies[a]
+        some = [lists.random_call(rng, model) for _ in range(rng.randint(1, 6))]
+        text = b''.join(random_record(rng, c) for c in some)
+        if rng.random() < 0.2:
+            text = bad_script(rng, text)
+        desk = Desk(engine, store, b''.join(copies.values()))
+        answers = bytearray(rng.randbytes(max(0, len(text) - (rng.choice([1, 512]) if rng.random() < 0.1 else 0))))
+        what = f'damage {n}'
+        number = accept.replay_refusal(text, bytes(store), bytes(desk.copies), answers)
+        if number:
+            desk.refused(what, text, answers, number)
+            continue
+        accepted = sheets.Machine(len(store) // 512)
+        accepted.history, accepted.used = layout.history_of(bytes(store))
+        accepted.seats = {k: layout.entries_of(c) for k, c in copies.items()}
+        desk.replay(what, text, [accepted.call(*c) for c in some])
+        if layout.history_of(bytes(desk.store)) != (accepted.history, accepted.used):
+            fail(f'{what} leaves another history')
+        for k, copy in cut(desk.copies).items():
+            if copy != layout.copy_bytes(k, accepted.seats[k]):
+                fail(f'{what} leaves another copy of seat {k}')
+
+
+# ---- faults
+
+def in_store(change):
+    return lambda s: s.update(store=bytearray(change(bytearray(s['store']))))
+
+
+def in_copy(k, block, data):
+    """The copy of seat k with another block."""
+    def change(s):
+        at = (k - 1) * layout.COPY_LEN + block * 512
+        s['copies'][at:at + 512] = data
+    return change
+
+
+def in_script(change):
+    return lambda s: s.update(script=bytes(change(bytearray(s['script']))))
+
+
+def changed(at, data):
+    def change(buffer):
+        buffer[at:at + len(data)] = data
+        return buffer
+    return change
+
+
+def faults():
+    """In the order of the refusals: the buffer that has the fault, the refusal, and what makes the fault. The store has one revision, the script three calls."""
+    out = [('store', 1, in_store(lambda b: b[:-1])), ('store', 1, in_store(lambda b: b[:512])), ('store', 1, in_store(lambda b: b + bytes(512 * 4096))),
+           ('store', 2, in_store(changed(600, b'\1'))),
+           ('store', 3, in_store(changed(0, layout.sealed([1, 2])))),
+           ('copies', 4, lambda s: s['copies'].pop()), ('copies', 4, lambda s: s['copies'].append(0)), ('copies', 4, lambda s: s.update(copies=s['copies'][:layout.COPY_LEN]))]
+    for k in SEATS:
+        out += [(f'copy {k}', 5, in_copy(k, 3, bytes(512))), (f'copy {k}', 5, in_copy(k, 0, layout.sealed([4, 5]))),
+                (f'copy {k}', 6, in_copy(k, 32, layout.entry_block(('normal', 2, b'')))),
+                (f'copy {k}', 7, in_copy(k, 0, layout.sealed([4, k % 4 + 1])))]
+    bad = [lambda b: b[:-1], lambda b: b + bytes(1), lambda b: b[:1], lambda b: b + bytes(512)]
+    for record in (0, 1, 2):
+        bad += [changed(512 * record, bytes([kind])) for kind in (0, 13, 255)]
+        bad += [changed(512 * record + 1, bytes([seat])) for seat in (0, 5, 255)]
+        bad += [changed(512 * record + 2, layout.two(n)) for n in (497, 65535)]
+    out += [('script', 7, in_script(b)) for b in bad]
+    return out + [('answers', 7, lambda s, n=n: s.update(answers=s['answers'][:n])) for n in (1535, 1024, 0)]
+
+
+def every_fault(engine):
+    """Each fault alone, and every two of them in different buffers: the one that comes first."""
+    model = sheets.Machine(8)
+    model.call('add', 2, 5, b'A')
+    model.call('commit', 2, 7, 1 << 5)
+    store, copies = layout.store_bytes(8, model.history), b''.join(layout.copy_bytes(k, model.seats[k]) for k in SEATS)
+    text = b''.join(script.call_record(*c) for c in [('add', 1, 6, b'B' * script.MOST), ('edit', 2, 5, b'C'), ('commit', 2, 8, 1 << 5)])
+    Desk(engine, store, copies).replay('no fault', text, [('no', 7), ('done',), ('revision', 2)], b'rest')
+    none = Desk(engine, store, copies)
+    none.replay('the empty script', b'', [], b'rest')
+    none.held_to('the empty script', model)
+    for chosen in itertools.chain(([f] for f in faults()), itertools.combinations(faults(), 2)):
+        places = [f[0] for f in chosen]
+        if len(set(places)) < len(places) or places[0] == 'copies' and places[-1].startswith('copy '):
+            continue
+        s = dict(script=text, store=bytearray(store), copies=bytearray(copies), answers=bytearray(b'\x5a' * len(text)))
+        for _, _, make in chosen:
+            make(s)
+        Desk(engine, s['store'], s['copies']).refused(f'faults {[f[:2] for f in chosen]}', s['script'], s['answers'], chosen[0][1])
+    swapped = {k: copies[(k - 1) * layout.COPY_LEN:k * layout.COPY_LEN] for k in (1, 3, 2, 4)}
+    Desk(engine, store, b''.join(swapped.values())).refused('copies in another order', text, bytearray(1536), 7)
+
+
+def example(engine):
+    """The worked script of docs/LAYOUT.md, byte by byte as its table has it."""
+    def record(cell):
+        out = bytearray(512)
+        for at, data in re.findall(r'(\d+)(?:–\d+)?: `([0-9a-f ]+)`', cell):
+            out[int(at):int(at) + len(bytes.fromhex(data))] = bytes.fromhex(data)
+        return bytes(out)
+
+    paper = (lists.ROOT / 'docs' / 'LAYOUT.md').read_text().split('## A worked script')[1]
+    rows = [line.split('|')[2:4] for line in paper.splitlines() if line.startswith('|')][2:]
+    text, wanted = (b''.join(record(row[k]) for row in rows) for k in (0, 1))
+    if len(rows) != 5:
+        fail('docs/LAYOUT.md has another worked script')
+    desk, answers = Desk.fresh(engine, 4), bytearray(b'\x5a' * len(text))
+    if desk.engine.replay(text, desk.store, desk.copies, answers) != ('done',) or answers != wanted:
+        fail('the worked script of docs/LAYOUT.md')
+    checks = [(layout.two_at(desk.store, k + 508), layout.two_at(desk.store, k + 510)) for k in range(0, 2048, 512)]
+    if checks != [(2, 1015), (69, 34006), (21, 10479), (0, 0)]:
+        fail('the worked script of docs/LAYOUT.md leaves another store')
+
+
+def from_file(engine, path):
+    """Every list as one script; a call that takes more bytes than a record holds is made by itself, between two scripts."""
+    for number, line in enumerate(open(path)):
+        blocks, cs, answers, used, history, seats = lists.from_json(json.loads(line))
+        desk, what = Desk.fresh(engine, blocks), f'{path}, list {number}'
+        short = lambda pair: pair[0][0] not in ('add', 'edit') or len(pair[0][-1]) <= script.MOST
+        for encodable, pairs in itertools.groupby(zip(cs, answers), short):
+            some, said = zip(*pairs)
+            if encodable:
+                desk.replay(what, b''.join(script.call_record(*c) for c in some), said, b'rest')
+                continue
+            for c, a in zip(some, said):
+                copy = desk.copies[(c[1] - 1) * layout.COPY_LEN:c[1] * layout.COPY_LEN]
+                if engine.call(c[0], desk.store, copy, *c[2:]) != a or a[0] != 'no':
+                    fail(f'{what}: {c} is not {a}')
+        end, left = layout.history_of(bytes(desk.store)), {k: layout.entries_of(c) for k, c in cut(desk.copies).items()}
+        written = lambda *end: lists.theorems(blocks, cs, answers, *end)
+        if written(end[1], end[0], left) != written(used, history, seats):
+            fail(f'{what}: another end')
+
+
+def main():
+    parser = argparse.ArgumentParser(description=__doc__, formatter_class=argparse.RawDescriptionHelpFormatter)
+    parser.add_argument('--seed', type=int, default=1)
+    parser.add_argument('--lists', type=int, default=200)
+    parser.add_argument('--only', type=int, metavar='K')
+    parser.add_argument('files', nargs='*', metavar='FILE')
+    given = parser.parse_args()
+    engine = Engine()
+    for n in range(given.lists) if given.only is None else [given.only]:
+        rng = random.Random(f'{given.seed} {n}')
+        damaged(engine, rng, *random_list(engine, rng))
+        if failed:
+            print(f'failed in this list: tests/replay.py --seed {given.seed} --only {n}')
+            break
+    filling(engine)
+    every_fault(engine)
+    example(engine)
+    for path in given.files:
+        from_file(engine, path)
+    print(f'{scripts} scripts, {calls} calls done, {failed} wrong')
+    sys.exit(failed != 0)
+
+
+if __name__ == '__main__':
+    main()
