@@ -2,7 +2,7 @@
  *
  * Every call works on buffers that the caller lends: a store of 2 to 4,096 blocks of 512 bytes, and a working copy of 16,896
  * bytes. A call checks all that it is handed, finishes on every input, and either does its work or answers a refusal and
- * leaves every buffer unchanged. Refusals are numbered 1 to 13 as in the order's paper; 0 is none. A call needs about 264 KiB
+ * leaves every buffer unchanged. Refusals are numbered 1 to 13 as in the order's paper; 0 is none. A call needs about 272 KiB
  * of stack.
  */
 #ifndef SHEETSTORE_H
