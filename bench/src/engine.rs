@@ -44,6 +44,16 @@ mod c {
         pub fn sheets_show(store: *const u8, store_len: usize, copy: *const u8, copy_len: usize, sheet: u32) -> Place;
         pub fn sheets_status(store: *const u8, store_len: usize, copy: *const u8, copy_len: usize, sheet: u32) -> Answer;
         pub fn sheets_log(store: *const u8, store_len: usize, revision: u32, sheet: u32) -> LogEntry;
+        pub fn sheets_replay(
+            script: *const u8,
+            script_len: usize,
+            store: *mut u8,
+            store_len: usize,
+            copies: *mut u8,
+            copies_len: usize,
+            answers: *mut u8,
+            answers_len: usize,
+        ) -> Answer;
         pub fn measure_look_up(store: *const u8, store_len: usize, n: usize, used: usize, r: usize, i: usize) -> usize;
         pub fn measure_status(
             store: *const u8,
@@ -110,6 +120,21 @@ pub fn status(store: &[u8], copy: &[u8], sheet: u32) -> Answer {
 
 pub fn log(store: &[u8], revision: u32, sheet: u32) -> LogEntry {
     unsafe { c::sheets_log(store.as_ptr(), store.len(), revision, sheet) }
+}
+
+pub fn replay(script: &[u8], store: &mut [u8], copies: &mut [u8], answers: &mut [u8]) -> Answer {
+    unsafe {
+        c::sheets_replay(
+            script.as_ptr(),
+            script.len(),
+            store.as_mut_ptr(),
+            store.len(),
+            copies.as_mut_ptr(),
+            copies.len(),
+            answers.as_mut_ptr(),
+            answers.len(),
+        )
+    }
 }
 
 /// Of an accepted store alone.

@@ -1,8 +1,14 @@
 //! Prints the figures of docs/PERFORMANCE.md as ratios, each pair measured in one run, one after the other in turn, best of many.
 
 mod engine;
+mod lists;
 mod make;
+mod rival;
+mod script;
+#[cfg(feature = "sqlite")]
+mod sqlite;
 mod store;
+mod svn;
 
 use std::hint::black_box;
 use std::time::Instant;
@@ -109,7 +115,7 @@ fn best_calls(store: &[u8], calls: &[Call]) -> Vec<f64> {
 }
 
 fn calls() {
-    for blocks in [32, 4096] {
+    for blocks in [32, 1000, 4096] {
         let store = make::ordinary(blocks);
         let opened = store::open(&store).expect("the maker lays out a history");
         let (used, last, all) = (opened.used, opened.last as u32, u32::MAX);
@@ -121,7 +127,7 @@ fn calls() {
         let mut edited = copy.clone();
         assert_eq!(engine::edit(&store, &mut edited, sheet, b"edited").refusal, 0);
         let bytes = [7; 480];
-        let calls: [Call; 14] = [
+        let calls: [Call; 16] = [
             ("acceptance (read 0 0)", &copy, &|s, _| (engine::read(s, 0, 0).refusal != 8) as u32),
             ("read", &copy, &|s, _| engine::read(s, last, sheet).refusal),
             ("log", &copy, &|s, _| engine::log(s, last, sheet).refusal),
@@ -136,6 +142,11 @@ fn calls() {
             ("update of all sheets from 0 to the last", &fresh, &|s, w| engine::update(s, w, all, last).refusal),
             ("update of all sheets from the last to 1", &copy, &|s, w| engine::update(s, w, all, 1).refusal),
             ("revert of one edit", &edited, &|s, w| engine::revert(s, w, 1 << sheet).refusal),
+            ("Rust version: acceptance", &copy, &|s, _| store::open(s).err().unwrap_or(0)),
+            ("Rust version: acceptance and read", &copy, &|s, _| {
+                let o = store::open(s).expect("accepted");
+                store::find(s, o.used, last as usize, sheet as usize).is_none() as u32
+            }),
         ];
         let times = best_calls(&store, &calls);
         println!("calls on {blocks} blocks, {last} commits");
@@ -151,11 +162,27 @@ fn calls() {
             ],
         );
         println!("  inner functions alone: status {:.0} ns, read {:.0} ns", inner[0] / many as f64, inner[1] / many as f64);
+        lists::each(blocks, times[0]);
     }
 }
 
 fn main() {
-    accept();
-    find();
-    calls();
+    // the parts to run, all where none is named
+    let parts: Vec<String> = std::env::args().skip(1).collect();
+    let wanted = |name: &str| parts.is_empty() || parts.iter().any(|p| p == name);
+    if wanted("accept") {
+        accept();
+    }
+    if wanted("find") {
+        find();
+    }
+    if wanted("calls") {
+        calls();
+    }
+    if wanted("lists") {
+        lists::sizes();
+    }
+    if wanted("rivals") {
+        rival::rivals();
+    }
 }

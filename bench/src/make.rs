@@ -113,10 +113,15 @@ impl Rng {
 
 /// Ordinary content: sheets of 100 to 480 bytes, commits of one to three changes; with at least four blocks left.
 pub fn ordinary(blocks: usize) -> Vec<u8> {
+    with_room(blocks, 4)
+}
+
+/// The same, with at least `room` blocks left.
+pub fn with_room(blocks: usize, room: usize) -> Vec<u8> {
     let mut rng = Rng(7);
     let mut m = Maker::new(blocks);
     let mut present = [false; 32];
-    while m.room() >= 8 {
+    while m.room() >= room + 4 {
         let sheets: Vec<usize> = (0..1 + rng.below(3)).map(|j| (rng.below(10) * 3 + j) % 32).collect();
         let contents: Vec<Vec<u8>> = sheets.iter().map(|_| {
             let n = 100 + rng.below(381);
@@ -134,6 +139,25 @@ pub fn ordinary(blocks: usize) -> Vec<u8> {
         m.commit(1, 7, &changes);
     }
     m.store
+}
+
+/// Sheets 0 to `sheets` - 1 in the first commit, then one of them in each commit, until `used` blocks are in use or one less; `room` blocks left. The sheet
+/// of commit r is `pick(r)`. Sheets have 100 to 480 bytes.
+pub fn steady(used: usize, room: usize, sheets: u8, pick: &mut dyn FnMut(usize) -> u8) -> Maker {
+    let mut rng = Rng(7);
+    let mut m = Maker::new(used + room);
+    let mut content = || {
+        let n = 100 + rng.below(381);
+        rng.bytes(n)
+    };
+    let first: Vec<Vec<u8>> = (0..sheets).map(|_| content()).collect();
+    m.commit(1, 7, &first.iter().enumerate().map(|(i, b)| add(i as u8, b)).collect::<Vec<_>>());
+    while m.used + 2 <= used {
+        let bytes = content();
+        let sheet = pick(m.last + 1);
+        m.commit(1, 7, &[change(sheet, &bytes)]);
+    }
+    m
 }
 
 /// The worst that was found: most commits, each with 31 copies of the oldest revision's longest sheet, or their deletes.

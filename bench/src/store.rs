@@ -71,7 +71,8 @@ pub struct Opened {
     pub used: usize,
 }
 
-/// Refusals 1 to 3, or the last revision and the used blocks.
+/// Refusals 1 to 3, or the last revision and the used blocks. Compiled once, for all its callers.
+#[inline(never)]
 pub fn open(store: &[u8]) -> Result<Opened, u32> {
     let n = store.len() / BLOCK;
     if store.len() % BLOCK != 0 || !(2..=4096).contains(&n) {
