@@ -3,7 +3,7 @@
 ghost use mathlib.Core.List.{[]};
 ghost use mathlib.Core.Path.{_≡_};
 ghost use Rattle.model.specs.Calls.{addCall, commitCall, copyCall, createCopy, createStore, deleteCall, editCall, logCall, moveCall, out, partOf, readPlace, revertCall, showPlace, sizeCondition, statusCall, updateCall};
-ghost use Rattle.model.specs.Types.{answerOf, createdAs, numberOf};
+ghost use Rattle.model.specs.Types.{actionNumber, answerOf, createdAs, numberOf, sourceRevision, sourceSheet};
 ghost use Rattle.engine.specs.Part.{PartAt, ShownAt};
 ghost use Rattle.engine.specs.Request.{answered, called, requested, tellsOf};
 ghost use Rattle.inner.specs.Performs.{Within, callOf};
@@ -11,6 +11,7 @@ ghost use Rattle.inner.specs.Place.{Located};
 use entries::Checked;
 use inner::Call;
 use inner::Reply;
+use model::Action;
 use model::Answer;
 use model::Place;
 use model::Refusal;
@@ -291,5 +292,44 @@ pub fn number(refusal: Refusal) -> u32
         Refusal::OutOfDate => 11,
         Refusal::Conflict => 12,
         Refusal::NoRoom => 13,
+    }
+}
+
+// The action's number.
+pub fn action_number(action: Action) -> u32
+    ensures { λ r. ⌜ r ≡ actionNumber action ⌝ }
+{
+    match action {
+        Action::Nothing => 0,
+        Action::Add => 1,
+        Action::Change => 2,
+        Action::Delete => 3,
+        Action::Copy(_) => 4,
+    }
+}
+
+// The source sheet of a copy, else 0.
+pub fn source_sheet(action: Action) -> u32
+    ensures { λ r. ⌜ r ≡ sourceSheet action ⌝ }
+{
+    match action {
+        Action::Nothing => 0,
+        Action::Add => 0,
+        Action::Change => 0,
+        Action::Delete => 0,
+        Action::Copy(s) => s.sheet,
+    }
+}
+
+// The source revision of a copy, else 0.
+pub fn source_revision(action: Action) -> u32
+    ensures { λ r. ⌜ r ≡ sourceRevision action ⌝ }
+{
+    match action {
+        Action::Nothing => 0,
+        Action::Add => 0,
+        Action::Change => 0,
+        Action::Delete => 0,
+        Action::Copy(s) => s.revision,
     }
 }

@@ -7,7 +7,7 @@ ghost use Rattle.inner.specs.Performs.{told};
 ghost use Rattle.inner.specs.declared.Reply.the-variants.{At};
 ghost use Rattle.model.specs.Machine.{bytes as shown};
 ghost use Rattle.model.specs.Refusals.{firstOf};
-ghost use Rattle.model.specs.Types.{actionNumber, answerOf, sourceRevision, sourceSheet};
+ghost use Rattle.model.specs.Types.{answerOf};
 ghost use Rattle.model.specs.declared.Answer.the-variants.{Logged};
 ghost use Rattle.replay.specs.Desk.{desk, ranFrom};
 ghost use Rattle.replay.specs.Faults.{Checks, faultOf};
@@ -21,7 +21,6 @@ use entries::Checked;
 use entries::View;
 use inner::Call;
 use inner::Reply;
-use model::Action;
 use model::Answer;
 use model::LogEntry;
 use model::Place;
@@ -117,45 +116,6 @@ fn decode(rec: &[u8]) -> Call
 
 // ---- the records of the answers
 
-// The action's number.
-fn action_number(action: Action) -> u32
-    ensures { λ r. ⌜ r ≡ actionNumber action ⌝ }
-{
-    match action {
-        Action::Nothing => 0,
-        Action::Add => 1,
-        Action::Change => 2,
-        Action::Delete => 3,
-        Action::Copy(_) => 4,
-    }
-}
-
-// The source sheet of a copy, else 0.
-fn source_sheet(action: Action) -> u32
-    ensures { λ r. ⌜ r ≡ sourceSheet action ⌝ }
-{
-    match action {
-        Action::Nothing => 0,
-        Action::Add => 0,
-        Action::Change => 0,
-        Action::Delete => 0,
-        Action::Copy(s) => s.sheet,
-    }
-}
-
-// The source revision of a copy, else 0.
-fn source_revision(action: Action) -> u32
-    ensures { λ r. ⌜ r ≡ sourceRevision action ⌝ }
-{
-    match action {
-        Action::Nothing => 0,
-        Action::Add => 0,
-        Action::Change => 0,
-        Action::Delete => 0,
-        Action::Copy(s) => s.revision,
-    }
-}
-
 // The record of what log tells, in zeros.
 fn put_log(rec: &mut [u8], entry: LogEntry)
     requires { ⌜ now rec ≡ zeros ⌝ }
@@ -165,9 +125,9 @@ fn put_log(rec: &mut [u8], entry: LogEntry)
     block::put32(rec, 4, entry.seat);
     block::put32(rec, 8, entry.stamp);
     block::put32(rec, 12, entry.changes);
-    block::put32(rec, 16, action_number(action));
-    block::put32(rec, 20, source_sheet(action));
-    block::put32(rec, 24, source_revision(action));
+    block::put32(rec, 16, engine::action_number(action));
+    block::put32(rec, 20, engine::source_sheet(action));
+    block::put32(rec, 24, engine::source_revision(action));
 }
 
 // The record of an answer, in zeros.

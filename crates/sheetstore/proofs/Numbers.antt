@@ -1,12 +1,8 @@
 -- The numbers of an answer or a place that is known.
 -- Assumes nothing.
 use mathlib.Core.Path.{_≡_, ap, sym}
-use Rattle.model.specs.Machine.{logged}
-use Rattle.model.specs.Types.{actionNumber, answerOf, placeOf, sourceRevision, sourceSheet}
-use Rattle.model.specs.declared.Action.{Action}
+use Rattle.model.specs.Types.{answerOf, placeOf}
 use Rattle.model.specs.declared.Answer.{Answer}
-use Rattle.model.specs.declared.Answer.the-variants.{Logged}
-use Rattle.model.specs.declared.LogEntry.{LogEntry}
 use Rattle.model.specs.declared.Place.{Place}
 use Rattle.sheetstore.specs.Numbers.{answerNumbers, logNumbers, partNumbers}
 
@@ -19,9 +15,3 @@ module _ {a b : Answer} (e : a ≡ b) where
 
 pub part-known : {a b : Place} → a ≡ b → partNumbers (placeOf b) ≡ partNumbers (placeOf a)
 part-known e = sym (ap (λ (x : Place). partNumbers (placeOf x)) e)
-
--- what log tells, where the action is known
-pub told-known : (l : LogEntry) {d : Action} → l .action ≡ d
-    → logNumbers (logged (l .seat) (l .stamp) (l .changes) (actionNumber d) (sourceSheet d) (sourceRevision d)) ≡ logNumbers (answerOf (Logged l))
-told-known l e =
-    sym (ap (λ (x : Action). logNumbers (logged (l .seat) (l .stamp) (l .changes) (actionNumber x) (sourceSheet x) (sourceRevision x))) e)

@@ -1,6 +1,5 @@
 // The engine for callers in C: every answer as a struct of numbers, which specs/Numbers.antt defines from the answer of the meanings.
 // Each promise is one equation with the call's meaning in crates/model/specs/Calls.antt.
-use model::Action;
 use model::Answer;
 use model::LogEntry;
 use model::Place;
@@ -94,36 +93,15 @@ fn part_numbers(place: Place) -> SheetsPart
 fn told(entry: LogEntry) -> SheetsLog
     ensures { λ r. ⌜ r ≡ logNumbers (answerOf (Logged entry)) ⌝ }
 {
-    let mut numbers = SheetsLog {
+    let action = entry.action;
+    SheetsLog {
         refusal: 0,
         seat: entry.seat,
         stamp: entry.stamp,
         changes: entry.changes,
-        action: 0,
-        source_sheet: 0,
-        source_revision: 0,
-    };
-    let action = entry.action;
-    match action {
-        Action::Nothing => numbers,
-        Action::Add => {
-            numbers.action = 1;
-            numbers
-        }
-        Action::Change => {
-            numbers.action = 2;
-            numbers
-        }
-        Action::Delete => {
-            numbers.action = 3;
-            numbers
-        }
-        Action::Copy(source) => {
-            numbers.action = 4;
-            numbers.source_sheet = source.sheet;
-            numbers.source_revision = source.revision;
-            numbers
-        }
+        action: engine::action_number(action),
+        source_sheet: engine::source_sheet(action),
+        source_revision: engine::source_revision(action),
     }
 }
 
