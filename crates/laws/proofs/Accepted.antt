@@ -2,7 +2,7 @@
 -- Assumes nothing.
 use Prim.Native.Nat.{_+_, _≤_, ℕ}
 use mathlib.Core.Bool.{Bool, _&&_, false, not, true}
-use mathlib.Core.List.{List, map}
+use mathlib.Core.List.{List, _++_, map}
 use mathlib.Core.Option.{Option, none, some}
 use mathlib.Core.Path.{_∙_, _≡_, ap, refl, subst, sym}
 use native.Mathlib.Omega.{arith}
@@ -11,7 +11,7 @@ use lib.Dec.{eqb, leb}
 use lib.ListN.{List·getD-map, getD, length, length-append}
 use Rattle.block.specs.Lists.{All}
 use Rattle.model.specs.Blocks.{Block}
-use Rattle.model.specs.Calls.{call, copyConditions, sideIn, storeConditions}
+use Rattle.model.specs.Calls.{bothConditions, call, copyConditions, sideIn, storeConditions}
 use Rattle.model.specs.Entry.{Entry, added, copied, deleted, empty, normal}
 use Rattle.model.specs.Fitting.{fitsEntry, fitsStore, has}
 use Rattle.model.specs.History.{Bytes, History, last, present, sheet}
@@ -25,7 +25,7 @@ use Rattle.model.specs.Store.{Holds, blanks, blockCount, front, storeBlocks, st
 use Rattle.model.specs.WorkCopy.{FitsCopyBlock, HoldsCopy, copyOk, entriesOf, entryBlock, seatOf}
 use Rattle.laws.proofs.Accepting.{accepted-sound}
 use Rattle.laws.proofs.All.{All-getD}
-use Rattle.laws.proofs.Conditions.{clear, none-holds, sized-so}
+use Rattle.laws.proofs.Conditions.{clear, clear-split, none-holds, sized-so}
 use Rattle.laws.proofs.Invariant.{KeptSide, fits-still, kept-doing}
 use Rattle.laws.proofs.Rows.{is-T, no-row}
 use Rattle.laws.proofs.Steps.{copy-clear, same-seat, side-one, store-clear}
@@ -68,7 +68,7 @@ module _ (store copy : Bytes) (A : Accepted store copy) where
   holds-mine : HoldsCopy copy (seatOf copy) (entriesOf copy)
   holds-mine = copy-holds copy (eqb-true (length copy) 16_896 (not-false (eqb (length copy) 16_896) (copy-lines .0))) (is-T (copyOk copy) (copy-lines .1 .0))
 
-  seats : (1 ≤ seatOf copy) × (seatOf copy ≤ 4)
+  pub seats : (1 ≤ seatOf copy) × (seatOf copy ≤ 4)
   unfolding HoldsCopy
   seats = holds-mine .1
 
@@ -127,6 +127,13 @@ module _ (store copy : Bytes) (A : Accepted store copy) where
         storeTaken = none-holds (storeConditions (call store copy c .store)) (store-clear (blockCount store) (call store copy c .store) (call store copy c .copy) (sideBy o d c .1) (r .1) k lo hi);
         copyTaken = none-holds (copyConditions (call store copy c .store) (call store copy c .copy)) (copy-clear (blockCount store) (call store copy c .store) (call store copy c .copy) (sideBy o d c .1) (r .1) k lo hi);
       }
+
+-- where no line of a call holds, its buffers are accepted
+pub clear-accepted : (store copy : Bytes) (c : Call) → Clear (bothConditions store copy c) → Accepted store copy × Clear (conditions (sideIn store copy) c)
+clear-accepted store copy c h =
+    let p = clear-split (storeConditions store) (copyConditions store copy ++ conditions (sideIn store copy) c) h in
+    let q = clear-split (copyConditions store copy) (conditions (sideIn store copy) c) (p .1) in
+    (record { storeTaken = none-holds (storeConditions store) (p .0); copyTaken = none-holds (copyConditions store copy) (q .0) }, q .1)
 
 -- and so are the copies of the other seats, with the store as the call left it
 pub others-accepted : (store copy other : Bytes) → Accepted store copy → Accepted store other → (c : Call) → Typed c → Accepted (call store copy c .store) other

@@ -2,13 +2,13 @@
 -- machine does it.
 -- Assumes nothing.
 use Prim.Native.Nat.{ℕ}
-use mathlib.Core.List.{List, [], _++_, _∷_}
+use mathlib.Core.List.{List, [], _∷_}
 use mathlib.Core.Logic.{_↔_}
 use mathlib.Core.Option.{Option, none, some}
 use mathlib.Core.Path.{_∙_, _≡_, ap, refl, subst, sym}
 use native.Mathlib.Omega.{arith}
 use lib.ListN.{replicate}
-use Rattle.model.specs.Calls.{Out, answerBy, blockPlace, bothConditions, call, changeBy, changeCall, conditionsIn, copyConditions, createBy, createCopy, createCopyConditions, createStore, freshCopy, freshStore, heard, logCall, out, ownPlace, placeBy, readCall, readPlace, refusalOf, showPlace, sideIn, sizeCondition, statusCall, storeConditions, storeOnlyConditions, storeRefusal, storeSide}
+use Rattle.model.specs.Calls.{Out, answerBy, blockPlace, bothConditions, call, changeBy, changeCall, conditionsIn, createBy, createCopy, createCopyConditions, createStore, freshCopy, freshStore, heard, logCall, out, ownPlace, placeBy, readCall, readPlace, refusalOf, showPlace, sideIn, sizeCondition, statusCall, storeConditions, storeOnlyConditions, storeRefusal, storeSide}
 use Rattle.model.specs.Demand1.{Demand1, DoneOn, Refuses}
 use Rattle.model.specs.Entry.{empty, ownBytes}
 use Rattle.model.specs.Fitting.{FitsEntry}
@@ -18,7 +18,7 @@ use Rattle.model.specs.Refusals.{Clear, Condition, First, conditions, firstOf}
 use Rattle.model.specs.Run.{Typed, sideBy, sideStep}
 use Rattle.model.specs.Shows.{Accepted, Seen}
 use Rattle.model.specs.Store.{blockCount, blockUsed, storeHistory}
-use Rattle.laws.proofs.Accepted.{accepted-call}
+use Rattle.laws.proofs.Accepted.{accepted-call, clear-accepted}
 use Rattle.laws.proofs.Conditions.{clear-split, first-iff, none-holds}
 use Rattle.laws.proofs.Demand2.{laid-copy}
 use Rattle.laws.proofs.Fresh.{fresh-copy}
@@ -86,15 +86,13 @@ module _ (store copy : Bytes) where
   -- no condition holds of a call that takes both
   does : (c : Call) → Typed c → Clear (bothConditions store copy c) → DoneOn store copy c (call store copy c)
   does c ty h =
-      let p = clear-split (storeConditions store) (copyConditions store copy ++ conditions (sideIn store copy) c) h in
-      let q = clear-split (copyConditions store copy) (conditions (sideIn store copy) c) (p .1) in
-      let A : Accepted store copy = record { storeTaken = none-holds (storeConditions store) (p .0); copyTaken = none-holds (copyConditions store copy) (q .0) } in
-      let r = accepted-call store copy A c ty in
+      let q = clear-accepted store copy c h in
+      let r = accepted-call store copy (q .0) c ty in
       let e : sideStep (sideIn store copy) c ≡ doing (sideIn store copy) c = ap (λ (o : Option ℕ). sideBy o (sideIn store copy) c) (none-holds (conditions (sideIn store copy) c) (q .1)) in
       record { says = r .0 ∙ ap (λ (x : Answer × Side). x .0) e; holds = subst (λ (x : Answer × Side). Seen (blockCount store) (call store copy c .store) (call store copy c .copy) (x .1)) e (r .1) }
 
   -- a store that is accepted, is so with a fresh copy
-  fresh-accepted : Clear (storeConditions store) → Accepted store (freshCopy 1)
+  pub fresh-accepted : Clear (storeConditions store) → Accepted store (freshCopy 1)
   fresh-accepted h = record {
     storeTaken = none-holds (storeConditions store) h;
     copyTaken = laid-copy store (freshCopy 1) 1 (replicate 32 empty) (fresh-copy 1 (omega arith) (omega arith), λ i. replicate-any (FitsEntry (storeHistory store) i) 32 i empty empty tt tt) .0;

@@ -17,7 +17,7 @@ use Rattle.model.specs.History.{Bytes}
 use Rattle.model.specs.Layout.{Lays, LaysFrom}
 use Rattle.model.specs.Machine.{done, fresh}
 use Rattle.model.specs.Shows.{Shows, Stored}
-use Rattle.model.specs.Store.{Holds, blockCount, front}
+use Rattle.model.specs.Store.{Holds, blockCount, blocksOf, front}
 use Rattle.model.specs.WorkCopy.{FitsCopyBlock, HoldsCopy, entryBlock}
 use Rattle.laws.proofs.Conditions.{so-sized}
 use Rattle.laws.proofs.WorkCopy.{copy-bytes}
@@ -31,16 +31,24 @@ blank-all : (n : ℕ) → All (λ (b : Block). b ≡ blank) (replicate n blank)
 blank-all zero = tt
 blank-all (suc n) = (refl, blank-all n)
 
-fresh-stored : (N : ℕ) → 1 ≤ N → Stored N (freshStore N) [] 1
-unfolding Holds Lays LaysFrom
-fresh-stored N le =
-    let bs : List Block = label ∷ replicate (N - 1) blank in
-    let n : length bs ≡ N = (let l : length (replicate (N - 1) blank) ≡ N - 1 = length-replicate (N - 1) blank in omega (arith, l)) in
-    let f : All FitsBlock bs = (tt, blank-fits (N - 1)) in
-    record {
-      holds = (bs, n, f, refl, (replicate (N - 1) blank, refl, blank-all (N - 1)));
-      uses = ap (λ (x : List Block). length (front x)) (blocks-back N bs n f) ∙ ap (λ (x : List Block). suc (length x)) (front-none (replicate (N - 1) blank) (blank-all (N - 1)));
-    }
+-- a fresh store's blocks, of which the label alone is used
+module _ (N : ℕ) (le : 1 ≤ N) where
+  abbrev bs : List Block
+  bs = label ∷ replicate (N - 1) blank
+
+  counted : length bs ≡ N
+  counted = let l : length (replicate (N - 1) blank) ≡ N - 1 = length-replicate (N - 1) blank in omega (arith, l)
+
+  pub fresh-front : front (blocksOf N (freshStore N)) ≡ label ∷ []
+  fresh-front =
+      ap front (blocks-back N bs counted (tt, blank-fits (N - 1))) ∙ ap (λ (x : List Block). label ∷ x) (front-none (replicate (N - 1) blank) (blank-all (N - 1)))
+
+  pub fresh-stored : Stored N (freshStore N) [] 1
+  unfolding Holds Lays LaysFrom
+  fresh-stored = record {
+    holds = (bs, counted, (tt, blank-fits (N - 1)), refl, (replicate (N - 1) blank, refl, blank-all (N - 1)));
+    uses = ap length fresh-front;
+  }
 
 pub fresh-copy : (k : ℕ) → 1 ≤ k → k ≤ 4 → HoldsCopy (freshCopy k) k (replicate 32 empty)
 fresh-copy k lo hi = copy-bytes k (replicate 32 empty) refl lo hi (empties 32)

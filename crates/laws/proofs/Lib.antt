@@ -28,3 +28,5 @@ pub mod Fresh
 pub mod Demand1
 pub mod Demand3
 pub mod Replaying
+pub mod Order
+pub mod Ordered

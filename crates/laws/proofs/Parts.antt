@@ -27,6 +27,10 @@ pad-is (suc n) (x ∷ l) h =
     rw e (ap (λ (t : List ℕ). x ∷ t) (pad-is n l (omega arith)))
 
 module _ {A : Type 0} (fields : A → List ℕ) where
+  pub joined-append : (us rs : List A) → joined fields (us ++ rs) ≡ joined fields us ++ joined fields rs
+  joined-append [] rs = refl
+  joined-append (r ∷ us) rs = ap (λ (x : List ℕ). encode fields r ++ x) (joined-append us rs) ∙ sym (append-assoc (encode fields r) (joined fields us) (joined fields rs))
+
   pub joined-at : (rs : List A) (j : ℕ) (d : A) → j < length rs → blockAt (joined fields rs) j ≡ encode fields (getD rs j d)
   joined-at [] j d h = absurd (omega arith)
   joined-at (r ∷ rs) zero d h = take-at (encode fields r) (joined fields rs) 512 (length-encode fields r)

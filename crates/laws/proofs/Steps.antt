@@ -126,7 +126,7 @@ module _ (N : ℕ) (store copy : Bytes) (d : Side) (E : Seen N store copy d) (K 
   same-history = history-held N store (d .history) (E .stored .holds)
 
   -- the call finds the side in the buffers
-  same-side : sideIn store copy ≡ d
+  pub same-side : sideIn store copy ≡ d
   same-side =
       let C = holds-copy copy (d .seat) (d .entries) (E .copied) in
       let u : usedOf store ≡ d .used = ap (λ (n : ℕ). length (front (blocksOf n store))) counted ∙ E .stored .uses in
@@ -144,7 +144,7 @@ module _ (N : ℕ) (store copy : Bytes) (d : Side) (E : Seen N store copy d) (K 
       ap₂ fitsStore same-history (C .3) ∙ fits-all (d .history) (d .entries) (K .fits) in
       (ap not (eq-eqb (length copy) 16_896 (C .0)), (ap not (is-true (copyOk copy) (C .1)), (ap not f, tt)))
 
-  same-refusal : (c : Call) → refusalOf store copy c ≡ firstOf (conditions d c)
+  pub same-refusal : (c : Call) → refusalOf store copy c ≡ firstOf (conditions d c)
   unfolding refusalOf
   same-refusal c =
       clear-first (storeConditions store) (copyConditions store copy ++ conditions (sideIn store copy) c) store-clear
@@ -306,7 +306,7 @@ module _ (N : ℕ) (b : Buffers) (s : State) (k : ℕ) (W : Shows N b s) (K : Ke
   }
 
   -- the machine's step is its side's step, put back
-  step-side : (o : Option ℕ) (c : Call) → (sideBy o (sideOf s k) c .0 ≡ stepBy o s k c .0) × (put s k (sideBy o (sideOf s k) c .1) ≡ stepBy o s k c .1)
+  pub step-side : (o : Option ℕ) (c : Call) → (sideBy o (sideOf s k) c .0 ≡ stepBy o s k c .0) × (put s k (sideBy o (sideOf s k) c .1) ≡ stepBy o s k c .1)
   step-side (some n) c = (refl, λ i. record { blocks = s .blocks; used = s .used; history = s .history; seats = set-getD (s .seats) (k - 1) [] i })
   step-side none c = (refl, refl)
 

@@ -45,7 +45,7 @@ none-twice-for (fresh a s v ∷ ps) i p = (unnamed-for ps (suc i) (suc p) i (ome
 none-twice-for (shared a q s v ∷ ps) i p = (unnamed-for ps (suc i) p i (omega arith), none-twice-for ps (suc i) p)
 
 -- blocks that are shared stand before block `at`
-abbrev Low : ℕ → Plan → Type 0
+abbrev pub Low : ℕ → Plan → Type 0
 Low at skip = Unit {0}
 Low at (fresh a s v) = Unit {0}
 Low at (shared a q s v) = q < at

@@ -169,6 +169,9 @@ right-sources h i (change x ∷ cs) r = right-sources h (suc i) cs (r .1)
 right-sources h i (delete ∷ cs) r = right-sources h (suc i) cs (r .1)
 right-sources h i (copy s v x ∷ cs) r = (r .0 .2, right-sources h (suc i) cs (r .1))
 
+pub made-sources : (h : History) (c : Commit) → Made h c → Sources h (c .changes)
+made-sources h c M = right-sources h 0 (c .changes) (right-from h 0 (c .changes) (λ j. rw zero-add (M .right j)))
+
 fits-contents : (r : ℕ) (bs : List (List ℕ)) → r < 65_536 → All Short bs → All FitsBlock (map (content r) bs)
 fits-contents r [] h a = tt
 fits-contents r (b ∷ bs) h a = ((h, a .0 .size, a .0 .bytes), fits-contents r bs h (a .1))
@@ -251,7 +254,7 @@ module _ (bs : List Block) (h : History) (L : Lays bs h) where
   passed : T (ok bs)
   passed = lays-accepted bs h L .0
 
-  lays-split : Lays (front bs ++ blanks bs) h
+  pub lays-split : Lays (front bs ++ blanks bs) h
   lays-split = subst (λ (x : List Block). Lays x h) (sym (front-blanks bs)) L
 
   pub tables-used : tablesOf (front bs) ≡ tablesOf bs
@@ -298,7 +301,7 @@ module _ (bs : List Block) (h : History) (c : Commit) (few : length bs ≤ 4_096
     low = omega (arith, lengths)
 
     contents : length (newContents (front bs) (blanks bs) c) ≡ total (contentOf h) (c .changes)
-    contents = content-count look at tables h (source-bytes bs h L) (user-below bs h L) low (omega arith) (c .changes) (right-sources h 0 (c .changes) rights)
+    contents = content-count look at tables h (source-bytes bs h L) (user-below bs h L) low (omega arith) (c .changes) (made-sources h c M)
 
     newTables : length tables ≡ suc (last h)
     newTables = trees-in bs h L .count
@@ -347,16 +350,21 @@ module _ (bs : List Block) (h : History) (c : Commit) (few : length bs ≤ 4_096
         let e : length after ≡ length (blanks bs) - suc (length (newContents (front bs) (blanks bs) c)) = length-drop (suc (length (newContents (front bs) (blanks bs) c))) (blanks bs) in
         omega (arith, a, b, d, e, lengths, contents, room)
 
+    -- the used blocks are those that were, and the commit's
+    pub written-front : front (withCommit bs c) ≡ front bs ++ newBlocks (front bs) (blanks bs) c []
+    written-front =
+        let new = map (content (length tables)) (newContents (front bs) (blanks bs) c) in
+        let one : Block = commit (length tables) (c .seat) (c .stamp) (newLines (front bs) (blanks bs) c) in
+        front-append (front bs) (new ++ (one ∷ after)) (no-blank bs)
+        ∙ ap (λ (l : List Block). front bs ++ l) (front-contents (length tables) (newContents (front bs) (blanks bs) c) (one ∷ after)
+        ∙ ap (λ (l : List Block). new ++ (one ∷ l)) (front-none after blank-left))
+
     pub written-used : length (front (withCommit bs c)) ≡ length (front bs) + blocksFor h (c .changes)
     written-used =
         let new = map (content (length tables)) (newContents (front bs) (blanks bs) c) in
         let one : Block = commit (length tables) (c .seat) (c .stamp) (newLines (front bs) (blanks bs) c) in
         let d : length new ≡ length (newContents (front bs) (blanks bs) c) = length-map (newContents (front bs) (blanks bs) c) (content (length tables)) in
-        let e : front (withCommit bs c) ≡ front bs ++ (new ++ (one ∷ [])) =
-        front-append (front bs) (new ++ (one ∷ after)) (no-blank bs)
-        ∙ ap (λ (l : List Block). front bs ++ l) (front-contents (length tables) (newContents (front bs) (blanks bs) c) (one ∷ after)
-        ∙ ap (λ (l : List Block). new ++ (one ∷ l)) (front-none after blank-left)) in
-        ap length e ∙ length-append (front bs) (new ++ (one ∷ [])) ∙ omega (arith, length-append new (one ∷ []), d, contents)
+        ap length written-front ∙ length-append (front bs) (new ++ (one ∷ [])) ∙ omega (arith, length-append new (one ∷ []), d, contents)
 
 -- THE STATEMENT: the store with the commit written shows the longer history, and as many used blocks as the machine counts
 pub stored-commit : (N : ℕ) (store : Bytes) (h : History) (used : ℕ) (c : Commit) → N ≤ 4_096 → last h < 65_535 → Stored N store h used → Made h c

@@ -3,3 +3,4 @@ pub mod Handover
 pub mod Scripts
 pub mod OnBytes
 pub mod Layouts
+pub mod Orders

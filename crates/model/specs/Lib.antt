@@ -19,3 +19,5 @@ pub mod Shows
 pub mod Demand1
 pub mod Demand2
 pub mod Demand3
+pub mod Order
+pub mod Ordered

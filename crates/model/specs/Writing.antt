@@ -1,5 +1,5 @@
--- How a commit is written: its content blocks after the used blocks, then its commit block, then the blank blocks that are left. The document leaves the order of changes and
--- of content blocks free; here the changes stand by rising sheet number, and the content blocks in the order of the changes that point to them.
+-- How a commit is written: its content blocks after the used blocks, then its commit block, then the blank blocks that are left. Document 01 leaves the order of changes and of
+-- content blocks free; W1 of document 02 fixes it for what commit writes: the changes by rising sheet number, and the content blocks in the order of the changes that point to them.
 -- Assumes nothing.
 use Prim.Native.Nat.{suc, ℕ}
 use mathlib.Core.Bool.{Bool, false, true}

@@ -2,7 +2,7 @@
 -- Assumes nothing.
 use Prim.Native.Nat.{_*_, _+_, _-_, _<_, _≤_, suc, zero, ℕ}
 use mathlib.Core.Bool.{Bool, cond, false, true}
-use mathlib.Core.List.{List, [], _++_, _∷_, append-assoc, append-nil, map}
+use mathlib.Core.List.{List, [], _++_, _∷_, append-nil, map}
 use mathlib.Core.Path.{_∙_, _≡_, ap, ap₂, refl, sym}
 use native.Mathlib.Numerals.{add-one}
 use native.Mathlib.Omega.{arith}
@@ -16,6 +16,7 @@ use Rattle.block.specs.Write.{written}
 use Rattle.model.specs.Blocks.{Block, Line, commit, content, fieldsOf}
 use Rattle.model.specs.Codec.{encode, joined}
 use Rattle.laws.proofs.Codec.{length-encode}
+use Rattle.laws.proofs.Parts.{joined-append}
 use Rattle.laws.proofs.WorkCopy.{length-joined}
 use Rattle.writer.proofs.Lines.{from-all, from-next, from-none}
 use Rattle.writer.specs.Blocks.{PutSome, Wrote, commitBlocks, contentsBy, lineAt, linesFrom, noLine, sheetIn}
@@ -65,10 +66,6 @@ own-step r next x cs s s′ e =
     ap₂ (λ (k : ℕ) (y : List ℕ). written k (joined fieldsOf (map (content r) cs)) y) z e
     ∙ sym (written-both (512 * next) w (joined fieldsOf (map (content r) cs)) s)
 
-pub joined-both : (us bs : List Block) → joined fieldsOf (us ++ bs) ≡ joined fieldsOf us ++ joined fieldsOf bs
-joined-both [] bs = refl
-joined-both (a ∷ us) bs = ap (λ (x : List ℕ). encode fieldsOf a ++ x) (joined-both us bs) ∙ sym (append-assoc (encode fieldsOf a) (joined fieldsOf us) (joined fieldsOf bs))
-
 -- and the commit block after them
 commit-last : (used next : ℕ) (us : List Block) (b : Block) (s s₁ s₂ : List ℕ) → next ≡ used + length us
     → s₁ ≡ written (512 * used) (joined fieldsOf us) s → s₂ ≡ written (512 * next) (encode fieldsOf b) s₁
@@ -78,7 +75,7 @@ commit-last used next us b s s₁ s₂ e e₁ e₂ =
     e₂ ∙ ap₂ (λ (k : ℕ) (y : List ℕ). written k (encode fieldsOf b) y) z e₁
     ∙ sym (written-both (512 * used) (joined fieldsOf us) (encode fieldsOf b) s)
     ∙ ap (λ (x : List ℕ). written (512 * used) x s)
-    (ap (λ (x : List ℕ). joined fieldsOf us ++ x) (sym (append-nil (encode fieldsOf b))) ∙ sym (joined-both us (b ∷ [])))
+    (ap (λ (x : List ℕ). joined fieldsOf us ++ x) (sym (append-nil (encode fieldsOf b))) ∙ sym (joined-append fieldsOf us (b ∷ [])))
 
 -- ---- a writing that stops after n blocks
 take-map : {A B : Type 0} (f : A → B) (n : ℕ) (l : List A) → map f (take n l) ≡ take n (map f l)

@@ -18,9 +18,10 @@ use Rattle.model.specs.Layout.{Lays, Table, user}
 use Rattle.model.specs.Pass.{tablesOf}
 use Rattle.model.specs.Store.{blanks, front}
 use Rattle.model.specs.Writing.{Plan, bytesIn, contentsFor, fresh, lineOf, linesFor, newBlocks, newContents, newLines, planCopy, planOf, shared, skip, withCommit}
+use Rattle.laws.proofs.Parts.{joined-append}
 use Rattle.laws.proofs.WorkCopy.{length-joined}
 use Rattle.laws.proofs.Writing.{front-blanks, some-used, trees-in, user-below}
-use Rattle.writer.proofs.Contents.{content-other, content-own, joined-both}
+use Rattle.writer.proofs.Contents.{content-other, content-own}
 use Rattle.writer.specs.Blocks.{commitBlocks, contentsBy}
 
 -- what a row of the plan asks of the code that writes it: the sheet's bytes for a block of its own, and a block before `at` for one that is shared
@@ -79,7 +80,7 @@ written-blocks used old new rest e =
     ∙ sym (both new)
   where
     both : (mid : List Block) → joined fieldsOf (used ++ (mid ++ rest)) ≡ joined fieldsOf used ++ (joined fieldsOf mid ++ joined fieldsOf rest)
-    both mid = joined-both used (mid ++ rest) ∙ ap (λ (x : List ℕ). joined fieldsOf used ++ x) (joined-both mid rest)
+    both mid = joined-append fieldsOf used (mid ++ rest) ∙ ap (λ (x : List ℕ). joined fieldsOf used ++ x) (joined-append fieldsOf mid rest)
 
 -- THE STATEMENT: blocks bs that are the layout of h, a commit c, and a working copy that has the bytes of its changes
 module _ (bs : List Block) (h : History) (L : Lays bs h) (c : Commit) (bytes : ℕ → List ℕ) (carried : (i : ℕ) → i < length (c .changes) → Carries (bytes i) (changeOf c i)) where

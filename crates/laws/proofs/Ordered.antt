@@ -1,0 +1,374 @@
+-- W1: what calls leave in a store. Its used blocks stay, the accepted commits stand behind them in W1's order, and from a fresh store the bytes follow from its size and the
+-- history.
+-- Assumes nothing.
+use Prim.Native.Nat.{_*_, _+_, _-_, _<_, _^_, _≤_, suc, ℕ}
+use mathlib.Core.Bool.{Bool, _||_, cond, false, true}
+use mathlib.Core.List.{List, [], _++_, _∷_, append-assoc, append-nil, map}
+use mathlib.Core.Option.{Option, none, some}
+use mathlib.Core.Path.{_∙_, _≡_, ap, ap₂, refl, subst, sym}
+use native.Mathlib.Omega.{arith}
+use borrow.Author.Tests.{le-ltb}
+use lib.ListN.{drop, getD, length, length-append, replicate, take}
+use lib.Seq.{take-at}
+use Rattle.block.specs.Lists.{All}
+use Rattle.model.specs.Blocks.{Block, blank, commit, content, fieldsOf}
+use Rattle.model.specs.Calls.{Buffers, afterTurn, bothConditions, call, changeBy, changeCall, commitCall, freshBuffers, freshCopy, freshStore, refusalOf, runOn, sideIn, storeConditions, storeWith}
+use Rattle.model.specs.Codec.{joined}
+use Rattle.model.specs.Demand2.{LaidStore}
+use Rattle.model.specs.History.{Bytes, Commit, History, last, noCommit, sheet}
+use Rattle.model.specs.Invariant.{Kept, Made, takes}
+use Rattle.model.specs.Layout.{Lays, Table}
+use Rattle.model.specs.Machine.{Add, Answer, Call, Commits, Copy, Delete, Edit, Log, Move, Read, Revert, Show, Side, State, Status, Update, blocksFor, fresh, newCommit, revision, sideOf}
+use Rattle.model.specs.Order.{commitBlocks, commitsBlocks, contentsAfter, continued, filled, linesAfter, storeBytes}
+use Rattle.model.specs.Ordered.{Appends, Ordered, ReadAs}
+use Rattle.model.specs.Pass.{grown, tablesAfter, tablesOf}
+use Rattle.model.specs.Refusals.{conditions, firstOf, noSheet, tooLate}
+use Rattle.model.specs.Run.{AllValid, Turn, Typed, accepted, asked, isRevision, run, sideBy, sideStep, step}
+use Rattle.model.specs.Shows.{Accepted, Seen, Shows, Stored, stateIn}
+use Rattle.model.specs.Store.{Holds, blanks, blockCount, blocksOf, front, storeBlocks, storeHistory, usedOf}
+use Rattle.model.specs.Writing.{newContents, withCommit}
+use Rattle.laws.proofs.Acceptance.{lays-accepted}
+use Rattle.laws.proofs.Accepted.{accepted-call, accepted-kept, accepted-seen, clear-accepted, seats}
+use Rattle.laws.proofs.All.{all-drop}
+use Rattle.laws.proofs.Answers.{read-side}
+use Rattle.laws.proofs.Conditions.{clear, none-holds}
+use Rattle.laws.proofs.Demand1.{fresh-accepted}
+use Rattle.laws.proofs.Demand2.{demand-two}
+use Rattle.laws.proofs.Demand3.{whole}
+use Rattle.laws.proofs.Fresh.{fresh-front, fresh-shows, fresh-stored}
+use Rattle.laws.proofs.Invariant.{Committable, KeptSide, committable, kept-fresh, kept-side, kept-step, made-commit}
+use Rattle.laws.proofs.Lasting.{found}
+use Rattle.laws.proofs.Order.{laid-in-order, tables-after, written-ordered}
+use Rattle.laws.proofs.Parts.{joined-append}
+use Rattle.laws.proofs.Replaying.{accepted-shows, accepted-state}
+use Rattle.laws.proofs.Steps.{one-step, same-refusal, same-side, seen-seat, step-side}
+use Rattle.laws.proofs.Store.{count-held, history-held}
+use Rattle.laws.proofs.Trees.{used-low}
+use Rattle.laws.proofs.WorkCopy.{length-joined}
+use Rattle.laws.proofs.Writing.{Blocks, blank-rest, blocks-back, front-blanks, holds-blocks, stored-commit, tables-used, written-fits, written-front, written-length}
+
+-- ---- the bytes of a store with further commits, by blocks
+
+-- n blocks: the used ones, which lay out h, the commits g, blank ones
+abbrev further : ℕ → History → List Block → History → List Block
+further n h used g = used ++ filled (n - length used) (commitsBlocks h (tablesOf used) (length used) g)
+
+blanks-only : (bl : List Block) → All (λ (b : Block). b ≡ blank) bl → replicate (length bl) blank ≡ bl
+blanks-only [] a = refl
+blanks-only (b ∷ bl) a = ap₂ _∷_ (sym (a .0)) (blanks-only bl (a .1))
+
+module _ (N : ℕ) (store : Bytes) (h : History) (H : Holds N store h) where
+  abbrev bs : List Block
+  bs = blocksOf N store
+
+  known : Blocks N store h bs
+  known = holds-blocks N store h H
+
+  same-blocks : storeBlocks store ≡ bs
+  same-blocks = ap (λ (n : ℕ). blocksOf n store) (count-held N store h H)
+
+  used-bytes : take (512 * length (front bs)) store ≡ joined fieldsOf (front bs)
+  used-bytes =
+      let n : length (joined fieldsOf (front bs)) ≡ 512 * length (front bs) = (let e = length-joined fieldsOf (front bs) in omega (arith, e)) in
+      ap (take (512 * length (front bs))) (sym (known .bytes) ∙ ap (joined fieldsOf) (sym (front-blanks bs)) ∙ joined-append fieldsOf (front bs) (blanks bs))
+      ∙ take-at (joined fieldsOf (front bs)) (joined fieldsOf (blanks bs)) (512 * length (front bs)) n
+
+  continued-is : (g : History) → continued store g ≡ joined fieldsOf (further N h (front bs) g)
+  unfolding continued
+  continued-is g =
+      let put : ℕ → History → List Block → List Table → Bytes =
+      λ n k xs ts. take (512 * length (front xs)) store ++ joined fieldsOf (filled (n - length (front xs)) (commitsBlocks k ts (length (front xs)) g)) in
+      let more : List Block = filled (N - length (front bs)) (commitsBlocks h (tablesOf (front bs)) (length (front bs)) g) in
+      ap₂ (λ (n : ℕ) (k : History). put n k (storeBlocks store) (tablesOf (storeBlocks store))) (count-held N store h H) (history-held N store h H)
+      ∙ ap (λ (xs : List Block). put N h xs (tablesOf xs)) same-blocks
+      ∙ ap (put N h bs) (sym (tables-used bs h (known .lays)))
+      ∙ ap (λ (x : Bytes). x ++ joined fieldsOf more) used-bytes
+      ∙ sym (joined-append fieldsOf (front bs) more)
+
+  -- the used blocks stay
+  continued-keeps : (g : History) → take (512 * usedOf store) (continued store g) ≡ take (512 * usedOf store) store
+  unfolding continued
+  continued-keeps g =
+      let first : Bytes = take (512 * usedOf store) store in
+      let more : List Block = filled (blockCount store - usedOf store) (commitsBlocks (storeHistory store) (tablesOf (storeBlocks store)) (usedOf store) g) in
+      let n : length (joined fieldsOf (front bs)) ≡ length (front bs) * 512 = length-joined fieldsOf (front bs) in
+      let e : usedOf store ≡ length (front bs) = ap (λ (xs : List Block). length (front xs)) same-blocks in
+      let l : length first ≡ 512 * usedOf store = ap (λ (m : ℕ). length (take (512 * m) store)) e ∙ ap length used-bytes ∙ omega (arith, n, e) in
+      take-at first (joined fieldsOf more) (512 * usedOf store) l
+
+  -- with no commit added it is as it was
+  continued-none : continued store [] ≡ store
+  continued-none =
+      let l : length (front bs) + length (blanks bs) ≡ N = sym (length-append (front bs) (blanks bs)) ∙ ap length (front-blanks bs) ∙ known .count in
+      let n : N - length (front bs) - 0 ≡ length (blanks bs) = omega arith in
+      continued-is []
+      ∙ ap (λ (m : ℕ). joined fieldsOf (front bs ++ replicate m blank)) n
+      ∙ ap (λ (bl : List Block). joined fieldsOf (front bs ++ bl)) (blanks-only (blanks bs) (blank-rest bs (lays-accepted bs h (known .lays) .0)))
+      ∙ ap (joined fieldsOf) (front-blanks bs)
+      ∙ known .bytes
+
+-- ---- one commit more
+
+-- what stands behind a commit's blocks x is the same, whether they are counted among the used ones or not
+further-on : (N : ℕ) (h : History) (c : Commit) (used : List Block) (g : History)
+    → tablesOf (used ++ commitBlocks h (tablesOf used) (length used) c) ≡ grown (tablesOf used) (linesAfter h (tablesOf used) (length used) c)
+    → further N (h ++ (c ∷ [])) (used ++ commitBlocks h (tablesOf used) (length used) c) g ≡ further N h used (c ∷ g)
+further-on N h c used g e =
+    let x : List Block = commitBlocks h (tablesOf used) (length used) c in
+    let ts : List Table = grown (tablesOf used) (linesAfter h (tablesOf used) (length used) c) in
+    let y : List Block = commitsBlocks (h ++ (c ∷ [])) ts (length used + length x) g in
+    let n : length (used ++ x) ≡ length used + length x = length-append used x in
+    let m : N - (length used + length x) - length y ≡ N - length used - length (x ++ y) = omega (arith, length-append x y) in
+    ap₂ (λ (k : ℕ) (us : List Table). (used ++ x) ++ filled (N - k) (commitsBlocks (h ++ (c ∷ [])) us k g)) n e
+    ∙ ap (λ (k : ℕ). (used ++ x) ++ (y ++ replicate k blank)) m
+    ∙ append-assoc used x (y ++ replicate (N - length used - length (x ++ y)) blank)
+    ∙ ap (λ (l : List Block). used ++ l) (sym (append-assoc x y (replicate (N - length used - length (x ++ y)) blank)))
+
+module _ (N : ℕ) (store : Bytes) (h : History) (used : ℕ) (c : Commit) (many : N ≤ 4_096) (short : last h < 65_535) (S : Stored N store h used) (M : Made h c)
+    (room : used + blocksFor h (c .changes) ≤ N)
+  where
+    abbrev old : List Block
+    old = blocksOf N store
+
+    abbrev store′ : Bytes
+    store′ = joined fieldsOf (withCommit old c)
+
+    was : Blocks N store h old
+    was = holds-blocks N store h (S .holds)
+
+    few : length old ≤ 4_096
+    few = omega (arith, was .count)
+
+    enough : length (front old) + blocksFor h (c .changes) ≤ length old
+    enough = omega (arith, was .count, S .uses)
+
+    stored : Stored N store′ (h ++ (c ∷ [])) (used + blocksFor h (c .changes))
+    stored = stored-commit N store h used c many short S M room
+
+    blocks-now : blocksOf N store′ ≡ withCommit old c
+    blocks-now =
+        blocks-back N (withCommit old c) (written-length old h c few (was .fit) (was .lays) M short enough ∙ was .count) (written-fits old h c few (was .fit) (was .lays) M short enough)
+
+    -- what is read behind the used blocks
+    abbrev rest : List Block
+    rest = drop (suc (length (newContents (front old) (blanks old) c))) (blanks old)
+
+    blocks-behind : storeBlocks store′ ≡ front old ++ (commitBlocks h (tablesOf (front old)) (length (front old)) c ++ rest)
+    blocks-behind = same-blocks N store′ (h ++ (c ∷ [])) (stored .holds) ∙ blocks-now ∙ ap (λ (l : List Block). front old ++ l) (written-ordered old h c (was .lays) M rest)
+
+    blank-behind : All (λ (b : Block). b ≡ blank) rest
+    blank-behind =
+        all-drop (λ (b : Block). b ≡ blank) (suc (length (newContents (front old) (blanks old) c))) (blanks old) (blank-rest old (lays-accepted old h (was .lays) .0))
+
+    front-now : front (blocksOf N store′) ≡ front old ++ commitBlocks h (tablesOf (front old)) (length (front old)) c
+    front-now =
+        ap front blocks-now
+        ∙ written-front old h c few (was .fit) (was .lays) M short enough
+        ∙ ap (λ (l : List Block). front old ++ l) (written-ordered old h c (was .lays) M [] ∙ append-nil (commitBlocks h (tablesOf (front old)) (length (front old)) c))
+
+    -- the commits g after the commit c that is written are c and g after what was there
+    continued-on : (g : History) → continued store′ g ≡ continued store (c ∷ g)
+    continued-on g =
+        continued-is N store′ (h ++ (c ∷ [])) (stored .holds) g
+        ∙ ap (λ (f : List Block). joined fieldsOf (further N (h ++ (c ∷ [])) f g)) front-now
+        ∙ ap (joined fieldsOf) (further-on N h c (front old) g (tables-after old h c (was .lays)))
+        ∙ sym (continued-is N store h (S .holds) (c ∷ g))
+
+-- ---- one call
+
+-- a commit by a seat, on buffers in which the side d is found
+module _ (N : ℕ) (store copy : Bytes) (d : Side) (E : Seen N store copy d) (K : KeptSide d) (lo : 1 ≤ d .seat) (hi : d .seat ≤ 4) where
+  module _ (stamp mask : ℕ) (small : stamp < 2 ^ 32) (e : firstOf (conditions d (Commits stamp mask)) ≡ none) where
+    abbrev new : Commit
+    new = newCommit d stamp mask
+
+    abbrev C : Committable d stamp mask
+    C = committable d stamp mask e lo hi small
+
+    continued-commit : (g : History) → continued (storeWith store (new ∷ [])) g ≡ continued store (new ∷ g)
+    continued-commit g =
+        ap (λ (n : ℕ). continued (joined fieldsOf (withCommit (blocksOf n store) new)) g) (count-held N store (d .history) (E .stored .holds))
+        ∙ continued-on N store (d .history) (d .used) new (E .many) (omega (arith, used-low (d .history), K .used, K .room, E .blocks, E .many)) (E .stored)
+        (made-commit d stamp mask K C) (omega (arith, C .room, E .blocks)) g
+
+  -- what any call adds: nothing, or the commit that it asks for
+  abbrev Adds : Bytes → Bool → List Commit → History → Type 0
+  Adds s t new g = continued s g ≡ continued store (cond t new [] ++ g)
+
+  adds-none : (t : Bool) (g : History) → Adds store t [] g
+  adds-none true g = refl
+  adds-none false g = refl
+
+  still-by : (o : Option ℕ) (c : Call) → ((x : Side) → asked x c ≡ []) → (t : Bool) (g : History) → Adds (changeBy o store copy c .store) t [] g
+  still-by (some n) c q t g = adds-none t g
+  still-by none c q t g = ap (λ (l : List Commit). continued (storeWith store l) g) (q (sideIn store copy)) ∙ adds-none t g
+
+  commit-by : (o : Option ℕ) (stamp mask : ℕ) → stamp < 2 ^ 32 → firstOf (conditions d (Commits stamp mask)) ≡ o → (g : History)
+      → Adds (changeBy o store copy (Commits stamp mask) .store) (isRevision (sideBy o d (Commits stamp mask) .0)) (newCommit d stamp mask ∷ []) g
+  commit-by (some n) stamp mask small e g = refl
+  commit-by none stamp mask small e g =
+      ap (λ (x : Side). continued (storeWith store (newCommit x stamp mask ∷ [])) g) (same-side N store copy d E K lo hi) ∙ continued-commit stamp mask small e g
+
+  call-adds : (c : Call) → Typed c → (g : History) → Adds (call store copy c .store) (isRevision (sideStep d c .0)) (asked d c) g
+  unfolding changeCall
+  call-adds (Add i x) ty g = still-by (refusalOf store copy (Add i x)) (Add i x) (λ y. refl) (isRevision (sideStep d (Add i x) .0)) g
+  call-adds (Edit i x) ty g = still-by (refusalOf store copy (Edit i x)) (Edit i x) (λ y. refl) (isRevision (sideStep d (Edit i x) .0)) g
+  call-adds (Delete i) ty g = still-by (refusalOf store copy (Delete i)) (Delete i) (λ y. refl) (isRevision (sideStep d (Delete i) .0)) g
+  call-adds (Copy i j) ty g = still-by (refusalOf store copy (Copy i j)) (Copy i j) (λ y. refl) (isRevision (sideStep d (Copy i j) .0)) g
+  call-adds (Move i j) ty g = still-by (refusalOf store copy (Move i j)) (Move i j) (λ y. refl) (isRevision (sideStep d (Move i j) .0)) g
+  call-adds (Commits stamp mask) ty g =
+      ap (λ (o : Option ℕ). continued (changeBy o store copy (Commits stamp mask) .store) g) (same-refusal N store copy d E K lo hi (Commits stamp mask))
+      ∙ commit-by (firstOf (conditions d (Commits stamp mask))) stamp mask ty refl g
+  call-adds (Update mask R) ty g = still-by (refusalOf store copy (Update mask R)) (Update mask R) (λ y. refl) (isRevision (sideStep d (Update mask R) .0)) g
+  call-adds (Revert mask) ty g = still-by (refusalOf store copy (Revert mask)) (Revert mask) (λ y. refl) (isRevision (sideStep d (Revert mask) .0)) g
+  call-adds (Read R i) ty g = adds-none (isRevision (sideStep d (Read R i) .0)) g
+  call-adds (Show i) ty g = adds-none (isRevision (sideStep d (Show i) .0)) g
+  call-adds (Status i) ty g = adds-none (isRevision (sideStep d (Status i) .0)) g
+  call-adds (Log R i) ty g = adds-none (isRevision (sideStep d (Log R i) .0)) g
+
+-- ---- a list of calls
+
+list-adds : (N : ℕ) (b : Buffers) (s : State) (ts : List Turn) → Shows N b s → Kept s → AllValid ts → runOn b ts .store ≡ continued (b .store) (accepted s ts)
+list-adds N b s [] W K v = sym (continued-none N (b .store) (s .history) (W .store .holds))
+list-adds N b s (t ∷ ts) W K v =
+    let s′ : State = step s (t .by) (t .call) .1 in
+    let lo : 1 ≤ t .by = v .0 .low in
+    let hi : t .by ≤ 4 = v .0 .high in
+    list-adds N (afterTurn b t) s′ ts (one-step N b s t W K (v .0) .1) (kept-step s t (v .0) K) (v .1)
+    ∙ call-adds N (b .store) (getD (b .copies) (t .by - 1) []) (sideOf s (t .by)) (seen-seat N b s (t .by) W lo hi) (kept-side s (t .by) K lo hi) lo hi (t .call) (v .0 .typed) (accepted s′ ts)
+    ∙ ap (λ (a : Answer). continued (b .store) (cond (isRevision a) (asked (sideOf s (t .by)) (t .call)) [] ++ accepted s′ ts))
+    (step-side N b s (t .by) W K lo hi (firstOf (conditions (sideOf s (t .by)) (t .call))) (t .call) .0)
+
+-- ---- a fresh store
+
+fresh-continued : (N : ℕ) (h : History) → 1 ≤ N → continued (freshStore N) h ≡ storeBytes N h
+unfolding storeBytes tablesOf tablesAfter
+fresh-continued N h le =
+    continued-is N (freshStore N) [] (fresh-stored N le .holds) h
+    ∙ ap (λ (f : List Block). joined fieldsOf (further N [] f h)) (fresh-front N le)
+
+list-bytes : (N : ℕ) (ts : List Turn) → 2 ≤ N → N ≤ 4_096 → AllValid ts → runOn (freshBuffers N) ts .store ≡ storeBytes N (accepted (fresh N) ts)
+list-bytes N ts lo hi v =
+    list-adds N (freshBuffers N) (fresh N) ts (fresh-shows N lo hi) (kept-fresh N (omega arith)) v ∙ fresh-continued N (accepted (fresh N) ts) (omega arith)
+
+-- the history that is read in what a list leaves is that of its accepted commits
+list-history : (N : ℕ) (ts : List Turn) → 2 ≤ N → N ≤ 4_096 → AllValid ts → storeHistory (runOn (freshBuffers N) ts .store) ≡ accepted (fresh N) ts
+list-history N ts lo hi v =
+    let W = whole N (freshBuffers N) (fresh N) ts (fresh-shows N lo hi) (kept-fresh N (omega arith)) v .1 in
+    history-held N (runOn (freshBuffers N) ts .store) (run (fresh N) ts .history) (W .store .holds) ∙ found N ts
+
+-- ---- the layout of any history that is sound
+
+-- each of these commits is right on those before it
+abbrev MadeFrom : History → History → Type 0
+MadeFrom h [] = Unit {0}
+MadeFrom h (c ∷ g) = Made h c × MadeFrom (h ++ (c ∷ [])) g
+
+made-from : (h g : History) → ((r : ℕ) → r < length g → Made (h ++ take r g) (getD g r noCommit)) → MadeFrom h g
+made-from h [] m = tt
+made-from h (c ∷ g) m =
+    (rw append-nil at (m 0 (omega arith)), made-from (h ++ (c ∷ [])) g (λ r lt. rw (append-assoc h (c ∷ []) (take r g)) (m (suc r) (omega arith))))
+
+history-stored : (N : ℕ) (store : Bytes) (h : History) (used : ℕ) (g : History) → N ≤ 4_096 → Stored N store h used → last h < used → MadeFrom h g → used + takes h g ≤ N
+    → Stored N (continued store g) (h ++ g) (used + takes h g)
+history-stored N store h used [] many S lt m room =
+    let n : used + 0 ≡ used = omega arith in
+    rw (continued-none N store h (S .holds), append-nil, n) S
+history-stored N store h used (c ∷ g) many S lt m room =
+    let k : ℕ = blocksFor h (c .changes) in
+    let short : last h < 65_535 = omega arith in
+    let enough : used + k ≤ N = omega arith in
+    let n : used + k + takes (h ++ (c ∷ [])) g ≡ used + (k + takes (h ++ (c ∷ [])) g) = omega arith in
+    let l : last (h ++ (c ∷ [])) < used + k = omega (arith, length-append h (c ∷ [])) in
+    let S′ = history-stored N (joined fieldsOf (withCommit (blocksOf N store) c)) (h ++ (c ∷ [])) (used + k) g many (stored N store h used c many short S (m .0) enough) l (m .1) (omega arith) in
+    rw (sym (continued-on N store h used c many short S (m .0) enough g), sym (append-assoc h (c ∷ []) g), sym n) S′
+
+-- ---- one commit, on any buffers
+
+module _ (store copy : Bytes) (stamp mask R : ℕ) (small : stamp < 2 ^ 32) where
+  abbrev asks : Call
+  asks = Commits stamp mask
+
+  abbrev d : Side
+  d = sideIn store copy
+
+  abbrev made : Commit
+  made = newCommit d stamp mask
+
+  -- a commit that answers a revision was not refused
+  commit-appends : (o : Option ℕ) → refusalOf store copy asks ≡ o → changeBy o store copy asks .says ≡ revision R → Appends store (changeBy o store copy asks .store) made R
+  unfolding refusalOf
+  commit-appends (some n) e q = absurd (let z : _≡_ {A = ℕ} 0 1 = cc in omega arith)
+  commit-appends none e q =
+      let p = clear-accepted store copy asks (clear (bothConditions store copy asks) e) in
+      let A : Accepted store copy = p .0 in
+      let E = accepted-seen store copy A in
+      let K = accepted-kept store copy A in
+      let h : History = storeHistory store in
+      let N : ℕ = blockCount store in
+      let H : Holds N store h = E .stored .holds in
+      let L : Lays (storeBlocks store) h = holds-blocks N store h H .lays in
+      let lo : 1 ≤ d .seat = seats store copy A .0 in
+      let hi : d .seat ≤ 4 = seats store copy A .1 in
+      let C = committable d stamp mask (none-holds (conditions d asks) (p .1)) lo hi small in
+      let short : last h < 65_535 = omega (arith, used-low h, K .used, K .room, E .many) in
+      let M : Made h made = made-commit d stamp mask K C in
+      let room : usedOf store + blocksFor h (made .changes) ≤ N = C .room in
+      let ts : List Table = tablesOf (front (storeBlocks store)) in
+      let r : suc (last h) ≡ R = cc q in
+      let b : storeWith store (made ∷ []) ≡ continued store (made ∷ []) =
+      sym (continued-none N (storeWith store (made ∷ [])) (h ++ (made ∷ [])) (stored N store h (usedOf store) made (E .many) short (E .stored) M room .holds))
+      ∙ continued-on N store h (usedOf store) made (E .many) short (E .stored) M room [] in
+      subst (Appends store (storeWith store (made ∷ [])) made) r
+      (record {
+        kept = ap (take (512 * usedOf store)) b ∙ continued-keeps N store h H (made ∷ []);
+        contents = contentsAfter h ts made;
+        lines = linesAfter h ts (usedOf store) made;
+        rest = rest N store h (usedOf store) made (E .many) short (E .stored) M room;
+        behind =
+            blocks-behind N store h (usedOf store) made (E .many) short (E .stored) M room
+            ∙ ap (λ (l : List Block). front (storeBlocks store) ++ l)
+            (append-assoc (map (content (suc (last h))) (contentsAfter h ts made)) (commit (suc (last h)) (made .seat) (made .stamp) (linesAfter h ts (usedOf store) made) ∷ [])
+            (rest N store h (usedOf store) made (E .many) short (E .stored) M room));
+        unused = blank-behind N store h (usedOf store) made (E .many) short (E .stored) M room;
+        order = laid-in-order (storeBlocks store) h made L;
+        bytes = b;
+      })
+
+-- ---- any layout
+
+laid-read : (store : Bytes) (h : History) → LaidStore store h → ReadAs store h
+laid-read store h L =
+    let D = demand-two store [] in
+    let t : firstOf (storeConditions store) ≡ none = D .store-accepted .1 (h, L) in
+    let A : Accepted store (freshCopy 1) = fresh-accepted store [] (clear (storeConditions store) t) in
+    let e : storeHistory store ≡ h = D .store-read h L in
+    record {
+      accepted = t;
+      found = λ R i le small.
+          let seven : (noSheet i || tooLate (storeHistory store) R) ≡ false =
+          ap₂ _||_ (le-ltb 31 i small) (le-ltb (last (storeHistory store)) R (subst (λ (k : History). R ≤ last k) (sym e) le)) in
+          accepted-call store (freshCopy 1) A (Read R i) tt .0
+          ∙ read-side false (sideIn store (freshCopy 1)) R i (sheet h R i) (ap (λ (k : History). sheet k R i) e) seven;
+    }
+
+commits-done : (store copy : Bytes) (stamp mask R : ℕ) → stamp < 2 ^ 32 → commitCall store copy stamp mask .says ≡ revision R
+    → Appends store (commitCall store copy stamp mask .store) (newCommit (sideIn store copy) stamp mask) R
+unfolding changeCall
+commits-done store copy stamp mask R small q = commit-appends store copy stamp mask R small (refusalOf store copy (Commits stamp mask)) refl q
+
+-- THE STATEMENT
+pub ordered : Ordered
+ordered = record {
+  commits = commits-done;
+  another = laid-read;
+  lists = λ b ts A v. list-adds (blockCount (b .store)) b (stateIn b) ts (accepted-shows b A) (accepted-state b A) v;
+  bytes = list-bytes;
+  equal = λ N ts us lo hi v w e. list-bytes N ts lo hi v ∙ ap (storeBytes N) e ∙ sym (list-bytes N us lo hi w);
+  back = λ N ts us lo hi v w e. sym (list-history N ts lo hi v) ∙ ap storeHistory e ∙ list-history N us lo hi w;
+  holds = λ N h lo hi s room.
+      let one : 1 ≤ N = omega arith in
+      let m : MadeFrom [] h = made-from [] h (λ r lt. s r lt) in
+      let S : Stored N (continued (freshStore N) h) h (1 + takes [] h) = history-stored N (freshStore N) [] 1 h hi (fresh-stored N one) (omega arith) m room in
+      record { count = N; few = lo; many = hi; holds = subst (λ (l : Bytes). Holds N l h) (fresh-continued N h one) (S .holds) };
+}

@@ -1,0 +1,60 @@
+-- W1 of document 02, the statement: "From now on a commit writes its changes by rising sheet number, and its content blocks in the order of the changes that point to them.
+-- Stores already written in another order are still accepted and read. Two fresh stores of one size whose calls make the same history then hold equal bytes."
+-- Here over the calls on buffers. Its proof is in laws/proofs/Ordered.
+-- Assumes nothing.
+use Prim.Native.Nat.{_*_, _<_, _^_, _≤_, ℕ}
+use mathlib.Core.List.{List, [], _++_, _∷_, map}
+use mathlib.Core.Option.{none}
+use mathlib.Core.Path.{_≡_}
+use lib.ListN.{length, take}
+use Rattle.block.specs.Lists.{All}
+use Rattle.model.specs.Blocks.{Block, Line, blank, commit, content}
+use Rattle.model.specs.Calls.{Buffers, commitCall, freshBuffers, readCall, runOn, sideIn, storeConditions}
+use Rattle.model.specs.Demand2.{LaidStore}
+use Rattle.model.specs.History.{Bytes, Commit, History, last, sheet}
+use Rattle.model.specs.Invariant.{Sound, usedBy}
+use Rattle.model.specs.Machine.{asBytes, fresh, newCommit, revision}
+use Rattle.model.specs.Order.{InOrder, continued, storeBytes}
+use Rattle.model.specs.Refusals.{firstOf}
+use Rattle.model.specs.Run.{AllValid, Turn, accepted}
+use Rattle.model.specs.Shows.{AllAccepted, stateIn}
+use Rattle.model.specs.Store.{front, storeBlocks, usedOf}
+
+-- the commit c was added to a store, as revision R
+pub record Appends (store store′ : Bytes) (c : Commit) (R : ℕ) : Type 0 where
+  -- every block that was in use is as it was
+  pub kept : take (512 * usedOf store) store′ ≡ take (512 * usedOf store) store
+  -- behind them stand content blocks, a commit block and all-zero blocks
+  pub contents : List Bytes
+  pub lines : List Line
+  pub rest : List Block
+  pub behind : storeBlocks store′ ≡ front (storeBlocks store) ++ (map (content R) contents ++ (commit R (c .seat) (c .stamp) lines ∷ rest))
+  pub unused : All (λ (b : Block). b ≡ blank) rest
+  -- "a commit writes its changes by rising sheet number, and its content blocks in the order of the changes that point to them"
+  pub order : InOrder (usedOf store) (length contents) lines
+  -- so every byte is determined
+  pub bytes : store′ ≡ continued store (c ∷ [])
+
+-- a store is accepted, and reading any sheet at R finds in it the bytes of tree R, or refusal 8
+pub record ReadAs (store : Bytes) (h : History) : Type 0 where
+  pub accepted : firstOf (storeConditions store) ≡ none
+  pub found : (R i : ℕ) → R ≤ last h → i ≤ 31 → readCall store R i ≡ asBytes (sheet h R i)
+
+pub record Ordered : Type 0 where
+  -- a commit that is done, on any buffers: the store may be written in another order
+  pub commits : (store copy : Bytes) (stamp mask R : ℕ) → stamp < 2 ^ 32 → commitCall store copy stamp mask .says ≡ revision R
+      → Appends store (commitCall store copy stamp mask .store) (newCommit (sideIn store copy) stamp mask) R
+  -- "Stores already written in another order are still accepted and read.": every layout of a history is, and the layout leaves the order of changes and of contents free
+  pub another : (store : Bytes) (h : History) → LaidStore store h → ReadAs store h
+  -- any list of calls on accepted buffers, in whatever order the store is written
+  pub lists : (b : Buffers) (ts : List Turn) → AllAccepted b → AllValid ts → runOn b ts .store ≡ continued (b .store) (accepted (stateIn b) ts)
+  -- any list of calls from a fresh store of N blocks and four fresh copies: the bytes follow from N and the accepted commits alone
+  pub bytes : (N : ℕ) (ts : List Turn) → 2 ≤ N → N ≤ 4_096 → AllValid ts → runOn (freshBuffers N) ts .store ≡ storeBytes N (accepted (fresh N) ts)
+  -- "Two fresh stores of one size whose calls make the same history then hold equal bytes.", whatever the calls, seats and refusals were
+  pub equal : (N : ℕ) (ts us : List Turn) → 2 ≤ N → N ≤ 4_096 → AllValid ts → AllValid us → accepted (fresh N) ts ≡ accepted (fresh N) us
+      → runOn (freshBuffers N) ts .store ≡ runOn (freshBuffers N) us .store
+  -- and back: equal bytes are the same history
+  pub back : (N : ℕ) (ts us : List Turn) → 2 ≤ N → N ≤ 4_096 → AllValid ts → AllValid us → runOn (freshBuffers N) ts .store ≡ runOn (freshBuffers N) us .store
+      → accepted (fresh N) ts ≡ accepted (fresh N) us
+  -- the bytes of every sound history that N blocks have room for are a store that is accepted and read as that history
+  pub holds : (N : ℕ) (h : History) → 2 ≤ N → N ≤ 4_096 → Sound h → usedBy h ≤ N → LaidStore (storeBytes N h) h
