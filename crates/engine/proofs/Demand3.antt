@@ -120,7 +120,8 @@ made-is (commits κs x y x′ y′ e) = e
 made-is (updates κs x y x′ y′ e) = e
 made-is (reverts κs x y x′ y′ e) = e
 
-traced : {b b′ : Buffers} {ts : List Turn} {rs : List TheAnswer} → Trace b ts rs b′ → (map answerOf rs ≡ answersOn b ts) × (b′ ≡ runOn b ts)
+-- a trace is the calls on buffers
+pub traced : {b b′ : Buffers} {ts : List Turn} {rs : List TheAnswer} → Trace b ts rs b′ → (map answerOf rs ≡ answersOn b ts) × (b′ ≡ runOn b ts)
 traced over = (refl, refl)
 traced (next {b = b} {t = t} {ts = ts} {r = r} {rs = rs} {store′ = store′} {copy′ = copy′} m more) =
     let e = made-is m in
@@ -134,7 +135,7 @@ run-append b [] us = refl
 run-append b (t ∷ ts) us = run-append (afterTurn b t) ts us
 
 -- what `read_place` answers is what the meaning finds
-read-is : (store : Bytes) (h : History) (R i : ℕ) → readCall store R i ≡ asBytes (sheet h R i) → Read store h R i
+pub read-is : (store : Bytes) (h : History) (R i : ℕ) → readCall store R i ≡ asBytes (sheet h R i) → Read store h R i
 read-is store h R i f κs x x′ r R′ i′ e l =
     ap (heard store []) (l .is) ∙ ap (λ (s : Bytes). heard store [] (readPlace s R i)) e ∙ f
 

@@ -52,7 +52,7 @@ pub record ReplayDemand3 : Type 2 where
 -- THE PROOF
 
 -- a run that answers done was not refused
-was-done : (o : Option ℕ) (ts : List Turn) (b d : Desk) {a : Answer} → record { says = a; left = d } ≡ replayBy o ts b → a ≡ done → (o ≡ none) × (d ≡ ranFrom 0 ts b)
+pub was-done : (o : Option ℕ) (ts : List Turn) (b d : Desk) {a : Answer} → record { says = a; left = d } ≡ replayBy o ts b → a ≡ done → (o ≡ none) × (d ≡ ranFrom 0 ts b)
 was-done none ts b d e q = (refl, ap (λ (x : Replayed). x .left) e)
 was-done (some n) ts b d e q = absurd (apart (sym q ∙ ap (λ (x : Replayed). x .says) e))
   where

@@ -9,3 +9,4 @@ pub mod Running
 pub mod Machine
 pub mod Encoding
 pub mod Demand3
+pub mod Ordered

@@ -157,7 +157,7 @@ module _ (script store copies old : Bytes) (small : (i : ℕ) → getD script i 
   abbrev b₀ : Desk
   b₀ = desk store copies old
 
-  four-accepted : AllAccepted (buffersIn store copies)
+  pub four-accepted : AllAccepted (buffersIn store copies)
   four-accepted = record {
     four = refl;
     each = λ k l.
