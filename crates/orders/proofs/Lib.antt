@@ -1,0 +1,2 @@
+pub mod AnotherOrder
+pub mod CaseInput
