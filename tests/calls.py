@@ -28,41 +28,58 @@ def fail(what):
         print(what if len(what) < 400 else what[:400] + ' ..')
 
 
-class Desk:
-    """A store and four copies, fresh, beside the model."""
+def played(model, store, some):
+    """The model's answers to these calls, and the store after them. The store has the model's history, in any order."""
+    answers = []
+    for c in some:
+        answers.append(model.call(*c))
+        if answers[-1][0] == 'revision':
+            store = layout.appended(store, model.history[-1])
+    return answers, store
 
-    def __init__(self, engine, blocks):
-        self.engine = engine
-        self.model = sheets.Machine(blocks)
-        self.store = bytearray(b'\x5a' * blocks * 512)
-        self.copies = {k: bytearray(b'\x5a' * layout.COPY_LEN) for k in (1, 2, 3, 4)}
-        if engine.create_store(self.store) != ('done',) or self.store != layout.store_bytes(blocks, []):
+
+class Desk:
+    """A store and four copies beside the model: a store that has the model's history, in any order, and the model's copies."""
+
+    def __init__(self, engine, model, store):
+        self.engine, self.model, self.store, self.laid_out = engine, model, bytearray(store), bytes(store)
+        self.copies = {k: bytearray(layout.copy_bytes(k, entries)) for k, entries in model.seats.items()}
+
+    @classmethod
+    def fresh(cls, engine, blocks):
+        desk = cls(engine, sheets.Machine(blocks), layout.store_bytes(blocks, []))
+        desk.store = bytearray(b'\x5a' * blocks * 512)
+        if engine.create_store(desk.store) != ('done',) or desk.store != desk.laid_out:
             fail(f'create of a store of {blocks} blocks')
-        for k, copy in self.copies.items():
-            if engine.create_copy(copy, k) != ('done',) or copy != layout.copy_bytes(k, self.model.seats[k]):
+        for k, wanted in desk.copies.items():
+            desk.copies[k] = bytearray(b'\x5a' * layout.COPY_LEN)
+            if engine.create_copy(desk.copies[k], k) != ('done',) or desk.copies[k] != wanted:
                 fail(f'create of the copy of seat {k}')
+        return desk
 
     def call(self, name, seat, *args):
         global calls
         calls += 1
         what = f'{name} by {seat} {args}'
-        before = bytes(self.store), {k: bytes(c) for k, c in self.copies.items()}
-        wanted = self.model.call(name, seat, *args)
+        before = {k: bytes(c) for k, c in self.copies.items()}
+        [wanted], self.laid_out = played(self.model, self.laid_out, [(name, seat, *args)])
         got = self.engine.call(name, self.store, self.copies[seat], *args)
         if got != wanted:
             fail(f'{what}: {got}, not {wanted}')
-        if name == 'commit' and wanted[0] != 'no':
-            if layout.history_of(bytes(self.store)) != (self.model.history, self.model.used):
-                fail(f'{what} leaves another history')
-            if self.store != layout.store_bytes(self.model.blocks, self.model.history):
-                fail(f'{what} leaves another layout')
-        elif self.store != before[0]:
-            fail(f'{what} changed the store')
+        if self.store != self.laid_out:
+            fail(f'{what} leaves another store')
+        elif wanted[0] == 'revision' and layout.history_of(self.laid_out) != (self.model.history, self.model.used):
+            fail(f'{what} leaves another history')
         for k, copy in self.copies.items():
             changes = k == seat and name in CHANGING and wanted[0] != 'no'
-            if copy != (layout.copy_bytes(k, self.model.seats[k]) if changes else before[1][k]):
+            if copy != (layout.copy_bytes(k, self.model.seats[k]) if changes else before[k]):
                 fail(f'{what} leaves another copy of seat {k}')
         return wanted
+
+    def whole(self):
+        """The store of a desk that was fresh follows from its history alone."""
+        if self.store != layout.store_bytes(self.model.blocks, self.model.history):
+            fail('the calls leave another layout of the history')
 
     def look(self, rng):
         """Reads at every revision of one sheet, and of every sheet at one; of many revisions a sample."""
@@ -77,7 +94,7 @@ class Desk:
 
 def random_list(engine, rng, number):
     """A list of random calls. List 0 fills a store of 4,096 blocks to its last block first, and so do a few others with smaller ones."""
-    desk = Desk(engine, rng.choice([2, 3, 4, 8, 12, 32, 64, 65, 200, 1000, 4096]) if number else 4096)
+    desk = Desk.fresh(engine, rng.choice([2, 3, 4, 8, 12, 32, 64, 65, 200, 1000, 4096]) if number else 4096)
     count = rng.choice([60, 150, 300])
     if number == 0 or desk.model.blocks < 1000 and rng.random() < 0.15:
         fill(desk, rng)
@@ -86,6 +103,7 @@ def random_list(engine, rng, number):
         desk.call(*lists.random_call(rng, desk.model))
         if n % 20 == 0:
             desk.look(rng)
+    desk.whole()
     return desk
 
 
@@ -174,15 +192,12 @@ def accepted(what, name, args, got, before, store, copy):
     if name not in STORE_ONLY:
         seat = before[1][1]
         model.seats[seat] = layout.entries_of(before[1])
-    wanted = model.call(name, seat, *args)
+    [wanted], wanted_store = played(model, before[0], [(name, seat, *args)])
     if got != wanted:
         fail(f'{what}: {got}, not {wanted}')
-    if layout.history_of(bytes(store)) != (model.history, model.used):
-        fail(f'{what} leaves another history')
-    if wanted[0] == 'no' or name not in CHANGING:
-        if (bytes(store), bytes(copy)) != before:
-            fail(f'{what} changed a buffer')
-    elif copy != layout.copy_bytes(seat, model.seats[seat]):
+    if store != wanted_store:
+        fail(f'{what} leaves another store')
+    if copy != (layout.copy_bytes(seat, model.seats[seat]) if name in CHANGING and wanted[0] != 'no' else before[1]):
         fail(f'{what} leaves another copy')
 
 
@@ -190,11 +205,12 @@ def from_file(engine, path):
     plain = lambda x: tuple(plain(y) if isinstance(y, (list, tuple)) else y for y in x)
     for number, line in enumerate(open(path)):
         blocks, cs, answers, used, history, seats = lists.from_json(json.loads(line))
-        desk = Desk(engine, blocks)
+        desk = Desk.fresh(engine, blocks)
         for c, a in zip(cs, answers):
             answer = desk.call(*c)
             if plain(answer) != plain(a):
                 fail(f'{path}, list {number}: {c}: {answer}, not {a}')
+        desk.whole()
         written = lambda *end: lists.theorems(blocks, cs, answers, *end)
         if written(desk.model.used, desk.model.history, desk.model.seats) != written(used, history, seats):
             fail(f'{path}, list {number}: another end')

@@ -1,5 +1,5 @@
 """Acceptance in plain Python, made apart from the engine: which of refusals 1 to 6 comes first for two buffers, or 0; and which of 1 to 7 for a replay."""
-from layout import BLOCK, COPY_LEN, commit_block, content, entry_block, entry_of, label, sealed, two_at
+from layout import BLOCK, COPY_LEN, commit_block, content, entry_block, entry_of, held, label, sealed, two_at
 from script import records_ok
 from sheets import ADD, CHANGE, COPY, DELETE
 
@@ -12,11 +12,6 @@ def cut(buffer):
 
 def checked(blocks):
     return all(b == sealed(b[:508]) for b in blocks)
-
-
-def held(block):
-    """The bytes of a content block."""
-    return block[16:16 + two_at(block, 2)]
 
 
 def next_tree(blocks, block, trees, contents):

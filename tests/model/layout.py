@@ -1,9 +1,9 @@
 """The blocks of document 01 in plain Python, made apart from the engine: bytes of a history and of a working copy, and back.
 
-`store_bytes` lays a history out, in sheet order or in an order of the caller's; `history_of` and `entries_of` read buffers
-that are known to be layouts. Nothing here checks a layout: accept.py does.
+`store_bytes` lays a history out, in the order of W1 (document 02) or in orders of the caller's; `appended` lays one more commit out behind the blocks of a
+store in any order; `history_of` and `entries_of` read buffers that are known to be layouts. Nothing here checks a layout: accept.py does.
 """
-import functools
+import functools, itertools
 
 from sheets import COPY, DELETE
 
@@ -61,48 +61,90 @@ def commit_block(revision, seat, stamp, lines):
     return sealed(bytes([3, 0]) + two(len(lines)) + two(revision) + bytes([seat, 0]) + stamp.to_bytes(4, 'little') + bytes(4) + b''.join(lines))
 
 
-def store_bytes(blocks, history, order=None):
-    """A store of so many blocks with this history. `order(sheets)` may give another order of a commit's changes."""
-    out = [label()]
-    trees = [{}]  # sheet -> (block, bytes)
-    for number, (seat, stamp, changes) in enumerate(history, 1):
-        tree = dict(trees[-1])
-        lines = []
-        for sheet in (order or sorted)(list(changes)):
-            action, data, source = changes[sheet]
-            if action == DELETE:
-                del tree[sheet]
-                lines.append(line(sheet, action, 0))
-                continue
-            if action == COPY and trees[source[1]][source[0]][1] == data:
-                block = trees[source[1]][source[0]][0]
-            else:
-                block = len(out)
-                out.append(content(number, data))
-            tree[sheet] = (block, data)
-            lines.append(line(sheet, action, block, source))
-        out.append(commit_block(number, seat, stamp, lines))
+def commit_blocks(first, commit, trees, order=None, contents=None):
+    """The blocks of the commit that comes after these trees, the first of them with this number, and the tree after it.
+
+    A tree goes from sheet to block number and bytes. W1: the changes stand by rising sheet number, the content blocks in the order of the changes that point to
+    them. `order(sheets)` may give the changes another order, and `contents(sheets)` the content blocks another than that of the changes.
+    """
+    seat, stamp, changes = commit
+    points, tree = {}, dict(trees[-1])
+    sheets = (order or sorted)(list(changes))
+    for sheet in sheets:
+        action, data, source = changes[sheet]
+        if action == DELETE:
+            points[sheet] = 0
+        elif action == COPY and trees[source[1]][source[0]][1] == data:
+            points[sheet] = trees[source[1]][source[0]][0]
+    own = (contents or list)([i for i in sheets if i not in points])
+    points.update((sheet, first + n) for n, sheet in enumerate(own))
+    for sheet, (action, data, _) in changes.items():
+        if action == DELETE:
+            del tree[sheet]
+        else:
+            tree[sheet] = (points[sheet], data)
+    revision = len(trees)
+    lines = [line(i, changes[i][0], points[i], changes[i][2]) for i in sheets]
+    return [content(revision, changes[i][1]) for i in own] + [commit_block(revision, seat, stamp, lines)], tree
+
+
+def filled(blocks, used):
+    """A store of so many blocks that has these in use."""
+    assert len(used) <= blocks
+    return b''.join(used) + bytes((blocks - len(used)) * BLOCK)
+
+
+def store_bytes(blocks, history, order=None, contents=None):
+    """A store of so many blocks with this history, in the order of W1 or in others: see `commit_blocks`."""
+    used, trees = [label()], [{}]
+    for commit in history:
+        more, tree = commit_blocks(len(used), commit, trees, order, contents)
+        used += more
         trees.append(tree)
-    assert len(out) <= blocks
-    return b''.join(out) + bytes((blocks - len(out)) * BLOCK)
+    return filled(blocks, used)
+
+
+def used_blocks(store):
+    """The blocks in use of a store that is known to be a layout."""
+    blocks = (bytes(store[k:k + BLOCK]) for k in range(0, len(store), BLOCK))
+    return list(itertools.takewhile(lambda b: b[0] != 0, blocks))
+
+
+def held(block):
+    """The bytes of a content block."""
+    return block[16:16 + two_at(block, 2)]
+
+
+def lines_of(block):
+    """The changes of a commit block: sheet, action, block number, source."""
+    for k in range(16, 16 + 8 * two_at(block, 2), 8):
+        l = block[k:k + 8]
+        yield l[0], l[1], two_at(l, 2), (l[4], two_at(l, 6)) if l[1] == COPY else None
 
 
 def history_of(store):
     """The history that a store is known to lay out, and its used blocks."""
-    blocks = [store[i:i + BLOCK] for i in range(0, len(store), BLOCK)]
-    held = lambda p: blocks[p][16:16 + two_at(blocks[p], 2)]
-    history, used = [], 1
-    for b in blocks[1:]:
-        if b[0] == 0:
-            break
-        used += 1
+    blocks, history = used_blocks(store), []
+    for b in blocks:
         if b[0] == 3:
-            changes = {}
-            for j in range(two_at(b, 2)):
-                l = b[16 + 8 * j:24 + 8 * j]
-                changes[l[0]] = (l[1], None if l[1] == DELETE else held(two_at(l, 2)), (l[4], two_at(l, 6)) if l[1] == COPY else None)
+            changes = {sheet: (action, None if action == DELETE else held(blocks[point]), source) for sheet, action, point, source in lines_of(b)}
             history.append((b[6], int.from_bytes(b[8:12], 'little'), changes))
-    return history, used
+    return history, len(blocks)
+
+
+def appended(store, commit):
+    """A store that is known to be a layout, with one more commit behind its used blocks in the order of W1. What stands there already stays, whatever its order."""
+    used, trees = used_blocks(store), [{}]
+    for b in used:
+        if b[0] == 3:
+            tree = dict(trees[-1])
+            for sheet, action, point, _ in lines_of(b):
+                if action == DELETE:
+                    del tree[sheet]
+                else:
+                    tree[sheet] = (point, held(used[point]))
+            trees.append(tree)
+    return filled(len(store) // BLOCK, used + commit_blocks(len(used), commit, trees)[0])
 
 
 def entry_block(entry):
