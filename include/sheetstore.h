@@ -49,6 +49,8 @@ sheets_answer sheets_delete(const uint8_t *store, size_t store_len, uint8_t *cop
 sheets_answer sheets_copy(const uint8_t *store, size_t store_len, uint8_t *copy, size_t copy_len, uint32_t from, uint32_t to);
 sheets_answer sheets_move(const uint8_t *store, size_t store_len, uint8_t *copy, size_t copy_len, uint32_t from, uint32_t to);
 
+/* A commit leaves the blocks in use as they are. Two stores of one size that began fresh are equal byte by byte exactly if their
+ * histories are the same. */
 sheets_answer sheets_commit(uint8_t *store, size_t store_len, uint8_t *copy, size_t copy_len, uint32_t stamp, uint32_t mask);
 sheets_answer sheets_update(const uint8_t *store, size_t store_len, uint8_t *copy, size_t copy_len, uint32_t mask, uint32_t revision);
 sheets_answer sheets_revert(const uint8_t *store, size_t store_len, uint8_t *copy, size_t copy_len, uint32_t mask);

@@ -98,7 +98,8 @@ pub fn move_sheet(store: &[u8], copy: &mut [u8], from: u32, to: u32) -> Result<(
     done(unsafe { ffi::sheets_move(store.as_ptr(), store.len(), copy.as_mut_ptr(), copy.len(), from, to) })
 }
 
-/// The pending entries that the mask chooses become the next revision, which is the answer.
+/// The pending entries that the mask chooses become the next revision, which is the answer. The blocks in use stay as they are. Two stores of one size
+/// that began fresh are equal byte by byte exactly if their histories are the same.
 pub fn commit(store: &mut [u8], copy: &mut [u8], stamp: u32, mask: u32) -> Result<u32, Refusal> {
     value(unsafe { ffi::sheets_commit(store.as_mut_ptr(), store.len(), copy.as_mut_ptr(), copy.len(), stamp, mask) })
 }
