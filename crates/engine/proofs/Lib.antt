@@ -1,4 +1,4 @@
--- The laws that the proofs of `engine` and of its callers cite, and the demands.
+-- The laws that the proofs of `engine` and of its callers cite, the demands, and W1 of document 02 (Ordered).
 pub mod Fresh
 pub mod Parts
 pub mod Demand2

@@ -128,13 +128,6 @@ module _ (store copy : Bytes) (A : Accepted store copy) where
         copyTaken = none-holds (copyConditions (call store copy c .store) (call store copy c .copy)) (copy-clear (blockCount store) (call store copy c .store) (call store copy c .copy) (sideBy o d c .1) (r .1) k lo hi);
       }
 
--- where no line of a call holds, its buffers are accepted
-pub clear-accepted : (store copy : Bytes) (c : Call) → Clear (bothConditions store copy c) → Accepted store copy × Clear (conditions (sideIn store copy) c)
-clear-accepted store copy c h =
-    let p = clear-split (storeConditions store) (copyConditions store copy ++ conditions (sideIn store copy) c) h in
-    let q = clear-split (copyConditions store copy) (conditions (sideIn store copy) c) (p .1) in
-    (record { storeTaken = none-holds (storeConditions store) (p .0); copyTaken = none-holds (copyConditions store copy) (q .0) }, q .1)
-
 -- and so are the copies of the other seats, with the store as the call left it
 pub others-accepted : (store copy other : Bytes) → Accepted store copy → Accepted store other → (c : Call) → Typed c → Accepted (call store copy c .store) other
 others-accepted store copy other A B c ty =
@@ -162,3 +155,10 @@ others-accepted store copy other A B c ty =
       storeTaken = none-holds (storeConditions (call store copy c .store)) (store-clear (blockCount store) (call store copy c .store) other x V′ K′ (seats store other B .0) (seats store other B .1));
       copyTaken = none-holds (copyConditions (call store copy c .store) other) (copy-clear (blockCount store) (call store copy c .store) other x V′ K′ (seats store other B .0) (seats store other B .1));
     }
+
+-- where no line of a call holds, its buffers are accepted
+pub clear-accepted : (store copy : Bytes) (c : Call) → Clear (bothConditions store copy c) → Accepted store copy × Clear (conditions (sideIn store copy) c)
+clear-accepted store copy c h =
+    let p = clear-split (storeConditions store) (copyConditions store copy ++ conditions (sideIn store copy) c) h in
+    let q = clear-split (copyConditions store copy) (conditions (sideIn store copy) c) (p .1) in
+    (record { storeTaken = none-holds (storeConditions store) (p .0); copyTaken = none-holds (copyConditions store copy) (q .0) }, q .1)

@@ -45,7 +45,7 @@ use Rattle.laws.proofs.Steps.{one-step, same-refusal, same-side, seen-s
 use Rattle.laws.proofs.Store.{count-held, history-held}
 use Rattle.laws.proofs.Trees.{used-low}
 use Rattle.laws.proofs.WorkCopy.{length-joined}
-use Rattle.laws.proofs.Writing.{Blocks, blank-rest, blocks-back, front-blanks, holds-blocks, stored-commit, tables-used, written-fits, written-front, written-length}
+use Rattle.laws.proofs.Writing.{Blocks, blank-rest, front-blanks, holds-blocks, stored-commit, tables-used, written-back, written-front}
 
 -- ---- the bytes of a store with further commits, by blocks
 
@@ -146,8 +146,7 @@ module _ (N : ℕ) (store : Bytes) (h : History) (used : ℕ) (c : Commit) (many
     stored = stored-commit N store h used c many short S M room
 
     blocks-now : blocksOf N store′ ≡ withCommit old c
-    blocks-now =
-        blocks-back N (withCommit old c) (written-length old h c few (was .fit) (was .lays) M short enough ∙ was .count) (written-fits old h c few (was .fit) (was .lays) M short enough)
+    blocks-now = written-back old h c few (was .fit) (was .lays) M short enough N (was .count)
 
     -- what is read behind the used blocks
     abbrev rest : List Block

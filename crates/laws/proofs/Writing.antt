@@ -350,6 +350,10 @@ module _ (bs : List Block) (h : History) (c : Commit) (few : length bs ≤ 4_096
         let e : length after ≡ length (blanks bs) - suc (length (newContents (front bs) (blanks bs) c)) = length-drop (suc (length (newContents (front bs) (blanks bs) c))) (blanks bs) in
         omega (arith, a, b, d, e, lengths, contents, room)
 
+    -- the blocks that are read in its bytes are those that are written
+    pub written-back : (n : ℕ) → length bs ≡ n → blocksOf n (joined fieldsOf (withCommit bs c)) ≡ withCommit bs c
+    written-back n e = blocks-back n (withCommit bs c) (written-length ∙ e) written-fits
+
     -- the used blocks are those that were, and the commit's
     pub written-front : front (withCommit bs c) ≡ front bs ++ newBlocks (front bs) (blanks bs) c []
     written-front =
@@ -381,6 +385,6 @@ stored-commit N store h used c many short S M room =
     record {
       holds = (withCommit bs c, len, fit, refl, written-lays bs h c few (B .fit) (B .lays) M short r);
       uses =
-          ap (λ (x : List Block). length (front x)) (blocks-back N (withCommit bs c) len fit)
+          ap (λ (x : List Block). length (front x)) (written-back bs h c few (B .fit) (B .lays) M short r N n)
           ∙ written-used bs h c few (B .fit) (B .lays) M short r ∙ ap (λ (m : ℕ). m + blocksFor h (c .changes)) (S .uses);
     }

@@ -10,7 +10,7 @@ use lib.ListN.{getD, replicate, set}
 use Rattle.model.specs.Blocks.{Block, Line, adds, blank, bytesAt, changes, commit, content, copies, deletes, label}
 use Rattle.model.specs.History.{Change, Commit, add, change, copy, delete, nothing, tree}
 use Rattle.model.specs.Layout.{means, next}
-use Rattle.model.specs.Order.{InOrder, commitsBlocks}
+use Rattle.model.specs.Order.{InOrder, RisingFrom, commitsBlocks}
 use Rattle.model.specs.Pass.{laid, noChanges, ok, okFrom, readAll, readFrom, rule, stated, tablesAfter, tablesOf}
 use Rattle.model.specs.Writing.{lineOf, withCommit}
 
@@ -48,6 +48,9 @@ other =
     label ∷ content 1 (67 ∷ []) ∷ content 1 (65 ∷ []) ∷ content 1 (66 ∷ [])
     ∷ commit 1 2 7 (lineOf 7 adds 3 0 0 ∷ lineOf 9 adds 1 0 0 ∷ lineOf 5 adds 2 0 0 ∷ []) ∷ []
 
+rises : (p : ℕ) → RisingFrom 0 (lines p)
+rises p = (lit≤ tt, (lit≤ tt, (lit≤ tt, (lit≤ tt, (lit≤ tt, tt)))))
+
 pub record Orders : Type 0 where
   -- both commits as the history gives them, and the second one as commit writes it on `other`, whose blocks stay
   pub written : commitsBlocks [] (replicate 32 0 ∷ []) 1 (first ∷ second ∷ []) ≡ ordered
@@ -55,8 +58,9 @@ pub record Orders : Type 0 where
   -- `other` is accepted, and read as the history of the first commit
   pub accepted : ok (other ++ replicate 6 blank) ≡ true
   pub read : readAll (other ++ replicate 6 blank) ≡ first ∷ []
-  -- the rule holds of what commit writes
+  -- the rule holds of what commit writes, on blocks in its order and on `other`
   pub kept : InOrder 5 3 (lines 2)
+  pub kept-other : InOrder 5 3 (lines 3)
   -- and is broken by falling sheet numbers, by contents in another order than their changes, and by a copy that shares block 2 and takes a place
   pub falling : InOrder 1 2 (lineOf 7 adds 1 0 0 ∷ lineOf 5 adds 2 0 0 ∷ []) → ⊥
   pub exchanged : InOrder 1 2 (lineOf 5 adds 2 0 0 ∷ lineOf 7 adds 1 0 0 ∷ []) → ⊥
@@ -69,7 +73,8 @@ orders = record {
   committed = refl;
   accepted = refl;
   read = refl;
-  kept = record { rising = (lit≤ tt, (lit≤ tt, (lit≤ tt, (lit≤ tt, (lit≤ tt, tt))))); contents = refl };
+  kept = record { rising = rises 2; contents = refl };
+  kept-other = record { rising = rises 3; contents = refl };
   falling = λ r. omega (arith, r .rising .1 .0);
   exchanged = λ r. let e : _≡_ {A = ℕ} 2 1 = ap (λ (l : List ℕ). getD l 0 0) (r .contents) in omega arith;
   placed = λ r. let e : _≡_ {A = ℕ} 7 6 = ap (λ (l : List ℕ). getD l 1 0) (r .contents) in omega arith;

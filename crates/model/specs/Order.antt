@@ -52,13 +52,15 @@ module _ (h : History) (tables : List Table) where
   planAfter delete = shared deletes 0 0 0
   planAfter (copy s v x) = cond (isBytes x (sheet h v s)) (shared copies (getD (getD tables v []) s 0) s v) (fresh copies s v)
 
+  -- the bytes of its content blocks
   abbrev pub contentsAfter : Commit → List Bytes
   contentsAfter c = contentsFor (c .changes) (map planAfter (c .changes))
 
-  -- its content blocks from block `at` on
+  -- its lines, where block `at` is the first of its blocks
   abbrev pub linesAfter : ℕ → Commit → List Line
   linesAfter at c = linesFor 0 at (map planAfter (c .changes))
 
+  -- its content blocks, then its commit block
   abbrev pub commitBlocks : ℕ → Commit → List Block
   commitBlocks at c = map (content (suc (last h))) (contentsAfter c) ++ (commit (suc (last h)) (c .seat) (c .stamp) (linesAfter at c) ∷ [])
 

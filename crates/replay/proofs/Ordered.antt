@@ -1,17 +1,28 @@
--- W1 of document 02 for scripts: what `replay` leaves in the store. What whoever calls `replay` learns is taken from that function's own contract (`Learnt`), and that the code meets the
--- contract (`met`) stands in the same record. The calls of a script are `turnsOf`; every list of calls is the list of its script (Encoding).
+-- W1 of document 02 for scripts: which stores `replay` takes, and what it leaves in them. What whoever calls `replay` learns is taken from that function's own contract (`Learnt`), and that
+-- the code meets the contract (`met`) stands in the same record. The calls of a script are `turnsOf`; every list of calls is the list of its script (Encoding).
 -- Assumes nothing.
-use Prim.Native.Nat.{_<_, _≤_, ℕ}
+use Prim.Native.Nat.{_*_, _<_, _≤_, suc, zero, ℕ}
+use mathlib.Core.Bool.{Bool, _||_, cond, false, not, true}
+use mathlib.Core.List.{List, [], _++_, _∷_}
+use mathlib.Core.Option.{Option, none, some}
 use mathlib.Core.Path.{_∙_, _≡_, ap, sym}
+use native.Mathlib.Omega.{arith}
 use contract.Lifetimes.{Lfts}
 use denote.Ref.{RefT, now}
-use lib.ListN.{getD}
+use lib.Dec.{eqb, lit≤, ltb}
+use lib.ListN.{drop, getD, length}
+use Rattle.block.specs.Lists.{All}
+use Rattle.laws.proofs.All.{all-append}
+use Rattle.laws.proofs.Conditions.{clear, clear-first}
+use Rattle.laws.proofs.Demand2.{demand-two}
 use Rattle.laws.proofs.Ordered.{ordered}
-use Rattle.model.specs.Calls.{Buffers, freshBuffers, runOn}
+use Rattle.model.specs.Calls.{Buffers, freshBuffers, runOn, storeConditions}
+use Rattle.model.specs.Demand2.{LaidStore}
 use Rattle.model.specs.History.{Bytes, History}
-use Rattle.model.specs.Machine.{done, fresh}
+use Rattle.model.specs.Machine.{Answer, done, fresh, refusal, refused}
 use Rattle.model.specs.Order.{continued, storeBytes}
-use Rattle.model.specs.Run.{AllValid, accepted}
+use Rattle.model.specs.Refusals.{Condition, _when_, firstOf}
+use Rattle.model.specs.Run.{AllValid, Turn, accepted, answers}
 use Rattle.model.specs.Shows.{AllAccepted, stateIn}
 use Rattle.model.specs.Types.{answerOf}
 use Rattle.model.specs.declared.Answer.{Answer as TheAnswer}
@@ -21,9 +32,10 @@ use Rattle.replay.proofs.Machine.{four-accepted, left-by, valid-script}
 use Rattle.replay.proofs.replay.Met as replay-met
 use Rattle.replay.proofs.replay.Reads as replay-reads
 use Rattle.replay.proofs.replay.Statement as replay-statement
-use Rattle.replay.specs.Desk.{buffersIn, desk}
-use Rattle.replay.specs.Replay.{replayRefusal}
-use Rattle.replay.specs.Script.{turnsOf}
+use Rattle.replay.specs.Desk.{Desk, buffersIn, copyAt, desk}
+use Rattle.replay.specs.Records.{recordsOf}
+use Rattle.replay.specs.Replay.{Replayed, copyLines, linesFrom, replayBy, replayRefusal}
+use Rattle.replay.specs.Script.{scriptOk, turnsOf}
 
 -- THE STATEMENT
 
@@ -36,10 +48,20 @@ pub data Ran : Bytes → Bytes → Bytes → Bytes → Type 0 where
 abbrev pub commitsOf : ℕ → Bytes → History
 commitsOf N script = accepted (fresh N) (turnsOf script)
 
+-- of a script on buffers whose store is a layout of h, where `old` are the answers' buffer before and `records` after
+pub record Taken (script : Bytes) (b : Buffers) (old : Bytes) (h : History) (r : TheAnswer) (records : Bytes) : Type 0 where
+  pub refusals : (n : ℕ) → answerOf r ≡ refused n → 4 ≤ n
+  pub history : stateIn b .history ≡ h
+  pub answer : answerOf r ≡ done → records ≡ recordsOf (answers (stateIn b) (turnsOf script)) ++ drop (512 * length (turnsOf script)) old
+
 pub record ReplayOrdered : Type 2 where
   pub replay-meets : (M : Type 1) → replay-statement.statement M
-  -- "Stores already written in another order are still accepted and read.": behind the blocks in use, which stay, the commits that were accepted, "by rising sheet number .. in the order of
-  -- the changes that point to them"
+  -- "Stores already written in another order are still accepted and read.": a store that is a layout of h, in whatever order, is no reason to refuse a script (refusals 1 to 3), and the
+  -- answers of a script that is run, those of read among them, are the machine's from that history
+  pub another : (κs : Lfts 4) (s x y z s′ x′ y′ z′ : RefT Bytes) (r : TheAnswer) → replay-reads.Learnt κs (s, (x, (y, (z, tt)))) r (s′, (x′, (y′, (z′, tt))))
+      → (h : History) → LaidStore (now x) h → Taken (now s) (buffersIn (now x) (now y)) (now z) h r (now z′)
+  -- "From now on a commit writes its changes by rising sheet number, and its content blocks in the order of the changes that point to them.": behind the blocks in use, which stay, in
+  -- whatever order they are, the commits that were accepted
   pub scripts : {script store copies store′ : Bytes} → Ran script store copies store′ → store′ ≡ continued store (accepted (stateIn (buffersIn store copies)) (turnsOf script))
   -- from a fresh store of N blocks and four fresh copies: the bytes follow from N and the accepted commits alone
   pub bytes : (N : ℕ) → 2 ≤ N → N ≤ 4_096 → {script store copies store′ : Bytes} → Ran script store copies store′ → buffersIn store copies ≡ freshBuffers N
@@ -68,6 +90,52 @@ ran-on (ran κs s x y z s′ x′ y′ z′ small L q) =
       left = ap (λ (b : Buffers). b .store) (left-by (now s) (now x) (now y) (now z) small (w .0) (w .1) .0);
     }
 
+-- refusals 1 to 3 are the store's, and the lines after them have higher numbers
+abbrev Later : List Condition → Type 0
+Later cs = All (λ (c : Condition). 4 ≤ c .number) cs
+
+later-first : (cs : List Condition) (n : ℕ) → Later cs → firstOf cs ≡ some n → 4 ≤ n
+later-first [] n a e = absurd (let z : _≡_ {A = ℕ} 0 1 = cc in omega arith)
+later-first (c ∷ cs) n a e = go (c .holds) (λ q. later-first cs n (a .1) q) e
+  where
+    go : (t : Bool) → (firstOf cs ≡ some n → 4 ≤ n) → cond t (some (c .number)) (firstOf cs) ≡ some n → 4 ≤ n
+    go true f q = let z : c .number ≡ n = cc q in omega (arith, a .0)
+    go false f q = f q
+
+later-lines : (store copies : Bytes) (k n : ℕ) → Later (linesFrom store copies k n)
+unfolding linesFrom
+later-lines store copies k zero = tt
+later-lines store copies k (suc n) =
+    all-append (λ (c : Condition). 4 ≤ c .number) (copyLines store (copyAt copies k) (suc k)) (linesFrom store copies (suc k) n)
+    (lit≤ tt, (lit≤ tt, (lit≤ tt, (lit≤ tt, tt)))) (later-lines store copies (suc k) n)
+
+-- the number that a script answers is that of the line that refused it
+answered : (o : Option ℕ) (ts : List Turn) (b d : Desk) {a : Answer} → record { says = a; left = d } ≡ replayBy o ts b → refusal a ≡ o
+answered none ts b d e = ap (λ (x : Replayed). refusal (x .says)) e
+answered (some n) ts b d e = ap (λ (x : Replayed). refusal (x .says)) e
+
+not-for-store : (script store copies old : Bytes) (n : ℕ) → firstOf (storeConditions store) ≡ none → replayRefusal script store copies old ≡ some n → 4 ≤ n
+unfolding replayRefusal
+not-for-store script store copies old n t e =
+    let end : Condition = 7 when (not (scriptOk script) || ltb (length old) (length script)) in
+    let rest : List Condition = 4 when not (eqb (length copies) 67_584) ∷ (linesFrom store copies 0 4 ++ (end ∷ [])) in
+    later-first rest n
+    (lit≤ tt, all-append (λ (c : Condition). 4 ≤ c .number) (linesFrom store copies 0 4) (end ∷ []) (later-lines store copies 0 4) (lit≤ tt, tt))
+    (sym (clear-first (storeConditions store) rest (clear (storeConditions store) t)) ∙ e)
+
+any-layout : (κs : Lfts 4) (s x y z s′ x′ y′ z′ : RefT Bytes) (r : TheAnswer) → replay-reads.Learnt κs (s, (x, (y, (z, tt)))) r (s′, (x′, (y′, (z′, tt))))
+    → (h : History) → LaidStore (now x) h → Taken (now s) (buffersIn (now x) (now y)) (now z) h r (now z′)
+any-layout κs s x y z s′ x′ y′ z′ r L h l =
+    let D = demand-two (now x) [] in
+    let o : Option ℕ = replayRefusal (now s) (now x) (now y) (now z) in
+    let before : Desk = desk (now x) (now y) (now z) in
+    let after : Desk = desk (now x′) (now y′) (now z′) in
+    record {
+      refusals = λ n q. not-for-store (now s) (now x) (now y) (now z) n (D .store-accepted .1 (h, l)) (sym (answered o (turnsOf (now s)) before after (L .is)) ∙ ap refusal q);
+      history = D .store-read h l;
+      answer = λ q. L .machine (was-done o (turnsOf (now s)) before after (L .is) q .0) .answer;
+    }
+
 -- on fresh buffers
 fresh-left : (N : ℕ) {script store copies store′ : Bytes} → RanOn script store copies store′ → buffersIn store copies ≡ freshBuffers N
     → store′ ≡ runOn (freshBuffers N) (turnsOf script) .store
@@ -76,6 +144,7 @@ fresh-left N {script} o e = o .left ∙ ap (λ (b : Buffers). runOn b (turnsOf s
 pub replay-ordered : ReplayOrdered
 replay-ordered = record {
   replay-meets = λ M. replay-met.met;
+  another = any-layout;
   scripts = λ {script} {store} {copies} p. let o = ran-on p in o .left ∙ ordered .lists (buffersIn store copies) (turnsOf script) (o .taken) (o .valid);
   bytes = λ N lo hi {script} p e. let o = ran-on p in fresh-left N o e ∙ ordered .bytes N (turnsOf script) lo hi (o .valid);
   equal = λ N lo hi {s} {t} p q e f same.
