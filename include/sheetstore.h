@@ -52,6 +52,8 @@ sheets_answer sheets_move(const uint8_t *store, size_t store_len, uint8_t *copy,
 /* A commit leaves the blocks in use as they are. Two stores of one size that began fresh are equal byte by byte exactly if their
  * histories are the same. */
 sheets_answer sheets_commit(uint8_t *store, size_t store_len, uint8_t *copy, size_t copy_len, uint32_t stamp, uint32_t mask);
+/* An entry whose own bytes are the ones that its sheet has at the revision agrees with it: not a conflict (12), and unmodified
+ * from then on. */
 sheets_answer sheets_update(const uint8_t *store, size_t store_len, uint8_t *copy, size_t copy_len, uint32_t mask, uint32_t revision);
 sheets_answer sheets_revert(const uint8_t *store, size_t store_len, uint8_t *copy, size_t copy_len, uint32_t mask);
 

@@ -1,4 +1,4 @@
-/* Two seats at one store: add, commit, update, read back, and two refusals; then two calls as one script. Exits 1 at the first answer that is not as expected.
+/* Two seats at one store: add, commit, update, read back, two refusals, and the same edit twice; then two calls as one script. Exits 1 at the first answer that is not as expected.
  *
  *     rt staticlib sheetstore
  *     cc -Wall -Wextra -Werror -Iinclude examples/c/sheets.c target/staticlib/libsheetstore.a -o target/sheets && target/sheets
@@ -111,6 +111,10 @@ int main(void) {
     expect_text("sheet 5 at revision 2", store, sheets_read(store, sizeof store, 2, 5), "stop after 20 s");
     sheets_place own = sheets_show(store, sizeof store, pump_room, sizeof pump_room, 5);
     expect_text("what seat 1 sees", own.buffer == 1 ? pump_room : store, own, "stop after 60 s");
+
+    expect("seat 1 types what seat 2 committed", edit(pump_room, 5, "stop after 20 s"), 0, 0);
+    expect("seat 1 updates to 2, they agree", update(pump_room, 2), 0, 0);
+    expect("seat 1 commits, nothing pending", commit(pump_room, 300), 10, 0);
 
     sheets_log_entry entry = sheets_log(store, sizeof store, 2, 5);
     if (entry.refusal != 0 || entry.seat != 2 || entry.stamp != 200 || entry.changes != 1 || entry.action != 2) {

@@ -104,7 +104,8 @@ pub fn commit(store: &mut [u8], copy: &mut [u8], stamp: u32, mask: u32) -> Resul
     value(unsafe { ffi::sheets_commit(store.as_mut_ptr(), store.len(), copy.as_mut_ptr(), copy.len(), stamp, mask) })
 }
 
-/// The entries that the mask chooses come to a revision, unless one of them is a conflict.
+/// The entries that the mask chooses come to a revision, unless one of them is a conflict. One whose own bytes are the ones that its sheet has there
+/// agrees: no conflict, and unmodified from then on.
 pub fn update(store: &[u8], copy: &mut [u8], mask: u32, revision: u32) -> Result<(), Refusal> {
     done(unsafe { ffi::sheets_update(store.as_ptr(), store.len(), copy.as_mut_ptr(), copy.len(), mask, revision) })
 }

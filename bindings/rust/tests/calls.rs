@@ -111,6 +111,22 @@ fn status_tells_each_state() {
     assert_eq!(of(&store, &one, 5), Status::Deleted);
 }
 
+#[test]
+fn the_same_edit_twice_agrees() {
+    let (mut store, mut two) = case_input(32);
+    let mut one = copy_of(1);
+    sheets::update(&store, &mut one, ALL, 1).unwrap();
+    sheets::edit(&store, &mut two, 5, b"B").unwrap();
+    sheets::commit(&mut store, &mut two, 0, ALL).unwrap();
+    sheets::edit(&store, &mut one, 5, b"C").unwrap();
+    assert_eq!(sheets::update(&store, &mut one, ALL, 2), Err(Refusal::Conflict));
+    sheets::edit(&store, &mut one, 5, b"B").unwrap();
+    assert_eq!(sheets::commit(&mut store, &mut one, 0, ALL), Err(Refusal::OutOfDate));
+    assert_eq!(sheets::update(&store, &mut one, ALL, 2), Ok(()));
+    assert_eq!(sheets::status(&store, &one, 5), Ok(Status::UpToDate));
+    assert_eq!(sheets::commit(&mut store, &mut one, 0, ALL), Err(Refusal::NothingPending));
+}
+
 /// A call on copies of a store and a working copy.
 type Call<'a> = &'a dyn Fn(&mut Vec<u8>, &mut Vec<u8>) -> Result<(), Refusal>;
 

@@ -119,7 +119,7 @@ answers store copy c e =
       logs = λ R i q. subst (λ (k : Call). Clear (storeOnlyConditions store k) → call store copy k ≡ out (doing (storeSide store) k .0) store copy) (sym q) (D .logs R i);
     })
 
-looked-is : {store copy : Bytes} {c : Call} {a : Answer} → Looked store copy c a → out a store copy ≡ call store copy c
+pub looked-is : {store copy : Bytes} {c : Call} {a : Answer} → Looked store copy c a → out a store copy ≡ call store copy c
 looked-is (statuses κs x y x′ y′ r e) = ap (λ (a : Answer). out a (now x) (now y)) e
 looked-is (shows κs x y x′ y′ r l) = ap (λ (p : Spot). out (heard (now x) (now y) p) (now x) (now y)) (l .is)
 looked-is (logs {copy = copy} κs x x′ r e) = ap (λ (a : Answer). out a (now x) copy) e

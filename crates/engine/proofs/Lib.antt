@@ -1,7 +1,8 @@
--- The laws that the proofs of `engine` and of its callers cite, the demands, and W1 of document 02 (Ordered).
+-- The laws that the proofs of `engine` and of its callers cite, the demands, and W1 and W2 of document 02 (Ordered, SameEdit).
 pub mod Fresh
 pub mod Parts
 pub mod Demand2
 pub mod Demand3
 pub mod Demand1
 pub mod Ordered
+pub mod SameEdit

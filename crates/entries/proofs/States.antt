@@ -3,6 +3,7 @@
 use Prim.Native.Nat.{_*_, _+_, _≤_, ℕ}
 use mathlib.Core.Bool.{Bool, cond, false, not, true}
 use mathlib.Core.List.{[], _∷_}
+use mathlib.Core.Option.{some}
 use mathlib.Core.Path.{_∙_, _≡_, ap, refl, subst, sym}
 use native.Mathlib.Omega.{arith}
 use lib.ListN.{drop, length, take}
@@ -38,6 +39,11 @@ all-own (Copied s) x c = refl
 module _ {copy : Bytes} {i : ℕ} {e : TheEntry} (r : Reading copy i e) where
   pub as-read : {s : State} → e .state ≡ s → entryIn copy i ≡ entryAs s (bytesIn e (blockAt copy (i + 1)))
   as-read q = sym (r .means) ∙ ap (λ (s : State). entryAs s (bytesIn e (blockAt copy (i + 1)))) q
+
+  -- an entry that has bytes has these
+  pub own-read : {s : State} → e .state ≡ s → ownBytes (entryAs s (bytesIn e (blockAt copy (i + 1)))) ≡ some (bytesIn e (blockAt copy (i + 1)))
+      → bytesOf copy i ≡ bytesIn e (blockAt copy (i + 1))
+  own-read q p = ap (λ (y : Entry). orNone (ownBytes y)) (as-read q) ∙ ap orNone p
 
   -- its bytes stand in the copy
   pub own-bytes : bytesOf copy i ≡ take (e .len) (drop (512 * (i + 1) + 16) copy)

@@ -1,41 +1,56 @@
 -- What an update makes of an entry, one law for each answer of the code.
 -- Assumes nothing.
 use Prim.Native.Nat.{_+_, _≤_, ℕ}
-use mathlib.Core.Bool.{Bool, false, not, true}
+use mathlib.Core.Bool.{Bool, cond, false, not, true}
 use mathlib.Core.Logic.{inl, inr}
-use mathlib.Core.Option.{some}
-use mathlib.Core.Path.{_∙_, _≡_, ap, subst, sym}
-use borrow.Author.Tests.{eq-eqb, ne-eqb}
+use mathlib.Core.Option.{none, some}
+use mathlib.Core.Path.{_∙_, _≡_, ap, refl, subst, sym}
+use native.Mathlib.Omega.{arith}
+use borrow.Author.Tests.{eq-eqb, ne-eqb, not-false, not-true}
 use Rattle.block.proofs.Says.{eq-or}
 use Rattle.block.specs.Buffer.{blockAt}
-use Rattle.model.specs.Entry.{Entry, empty, normal}
+use Rattle.model.specs.Blocks.{bytesAt}
+use Rattle.model.specs.Entry.{Entry, added, copied, empty, normal}
 use Rattle.model.specs.History.{Bytes, History, isBytes, sheet}
-use Rattle.model.specs.Machine.{asIn, sameNamer, updatedTo}
-use Rattle.model.specs.Store.{storeHistory}
+use Rattle.model.specs.Machine.{agreed, asIn, sameNamer, updatedTo}
+use Rattle.model.specs.Store.{storeBlocks, storeHistory}
 use Rattle.model.specs.Types.{entryAs}
 use Rattle.model.specs.declared.Entry.{Entry as TheEntry}
 use Rattle.model.specs.declared.Source.{Source}
 use Rattle.model.specs.declared.State.{State}
 use Rattle.model.specs.declared.State.the-variants.{Added, Copied, Deleted, Empty, Normal}
+use Rattle.laws.proofs.Trees.{has-bytes}
 use Rattle.entries.proofs.Looking.{found-inside, found-none, found-some}
-use Rattle.entries.proofs.States.{as-read, is-modified}
-use Rattle.entries.specs.View.{Opened, Stands, UpdateIs, bytesOf, takenAs, updatedAs}
+use Rattle.entries.proofs.States.{as-read, is-modified, own-read}
+use Rattle.entries.specs.View.{Opened, Stands, UpdateIs, agreedAs, bytesOf, takenAs, updatedAs}
 use Rattle.entries.specs.declared.Update.{Update}
-use Rattle.entries.specs.declared.Update.the-variants.{Conflict, Rebase, Stay}
+use Rattle.entries.specs.declared.Update.the-variants.{Conflict, Rebase, Stay, Take}
 use Rattle.entries.specs.declared.View.{View}
 use Rattle.search.specs.Find.{foundIn}
 use Rattle.search.specs.declared.Found.{Found}
 use Rattle.workcopy.specs.Copy.{Reading, bytesIn}
 
+-- whether an entry's bytes are tree R's, where t says that they differ
+module _ (store copy : Bytes) (R i p : ℕ) {t : Bool} (m : t ≡ not (isBytes (bytesOf copy i) (sheet (storeHistory store) R i))) where
+  pub agreed-not : t ≡ true → Conflict ≡ agreedAs (isBytes (bytesOf copy i) (sheet (storeHistory store) R i)) p
+  agreed-not z = rw (not-true (isBytes (bytesOf copy i) (sheet (storeHistory store) R i)) (sym m ∙ z))
+
+  pub agreed-so : t ≡ false → Take p ≡ agreedAs (isBytes (bytesOf copy i) (sheet (storeHistory store) R i)) p
+  agreed-so z = rw (not-false (isBytes (bytesOf copy i) (sheet (storeHistory store) R i)) (sym m ∙ z))
+
 module _ (store copy : Bytes) (v : View) (o : Opened store v) (R i : ℕ) (le : R ≤ v .last) {f : Found} (found : f ≡ foundIn store R i) {e : TheEntry} (r : Reading copy i e) where
   abbrev h : History
   h = storeHistory store
+
+  -- the entry's own bytes
+  abbrev own : Bytes
+  own = bytesIn e (blockAt copy (i + 1))
 
   abbrev Updated : Update → Entry → Type 0
   Updated u y = updatedAs u store R y ≡ updatedTo h R i y
 
   -- the entry is what was read
-  as-state : (u : Update) {s : State} → Stands store u → e .state ≡ s → Updated u (entryAs s (bytesIn e (blockAt copy (i + 1)))) → UpdateIs store copy R i u
+  as-state : (u : Update) {s : State} → Stands store u → e .state ≡ s → Updated u (entryAs s own) → UpdateIs store copy R i u
   as-state u p q x = record { means = subst (Updated u) (sym (as-read r q)) x; stands = p }
 
   -- the sheet of tree R, or none
@@ -55,18 +70,46 @@ module _ (store copy : Bytes) (v : View) (o : Opened store v) (R i : ℕ) (le : 
         | inr n ↦ rw (ne-eqb (f .block) 0 n) (found-inside store v o R i le found)
       ])
 
+  -- its bytes, where tree R has the same, or a conflict
+  module _ {u : Update} (w : u ≡ agreedAs (isBytes (bytesOf copy i) (sheet h R i)) (f .block)) where
+    agreed-means : {x : Bytes} → bytesOf copy i ≡ x → (y : Entry) → updatedAs u store R y ≡ agreed R x (sheet h R i)
+    agreed-means {x} q y =
+        ap (λ (u : Update). updatedAs u store R y) w
+        ∙ ap (λ (b : Bytes). updatedAs (agreedAs (isBytes b (sheet h R i)) (f .block)) store R y) q
+        ∙ go (isBytes x (sheet h R i)) refl
+      where
+        held : isBytes x (sheet h R i) ≡ true → bytesAt (storeBlocks store) (f .block) ≡ x
+        held z =
+            let t = has-bytes x (sheet h R i) z in
+            elim (eq-or (f .block) 0) [
+              | inl p ↦ let c : _≡_ {A = ℕ} 0 1 = cc (t, found-none store v o R i le found p) in absurd (omega arith)
+              | inr n ↦ cc (t, found-some store v o R i le found n)
+            ]
+
+        go : (t : Bool) → isBytes x (sheet h R i) ≡ t → updatedAs (agreedAs t (f .block)) store R y ≡ cond t (some (normal R x)) none
+        go true z = ap (λ (b : Bytes). some (normal R b)) (held z)
+        go false z = refl
+
+    agreed-inside : Stands store u
+    agreed-inside = subst (Stands store) (sym w) (go (isBytes (bytesOf copy i) (sheet h R i)))
+      where
+        go : (t : Bool) → Stands store (agreedAs t (f .block))
+        go true = found-inside store v o R i le found
+        go false = tt
+
   pub update-empty : {u : Update} → e .state ≡ Empty → u ≡ takenAs (f .block) → UpdateIs store copy R i u
   update-empty {u} q z = as-state u (takes-inside z) q (takes z empty)
 
   module _ {b : ℕ} (q : e .state ≡ Normal b) {t : Bool} (m : t ≡ not (isBytes (bytesOf copy i) (sheet h b i))) where
     pub update-unmodified : {u : Update} → t ≡ false → u ≡ takenAs (f .block) → UpdateIs store copy R i u
-    update-unmodified {u} z w = as-state u (takes-inside w) q (takes w (normal b (bytesIn e (blockAt copy (i + 1)))) ∙ rw (sym (is-modified h r q m) ∙ z))
+    update-unmodified {u} z w = as-state u (takes-inside w) q (takes w (normal b own) ∙ rw (sym (is-modified h r q m) ∙ z))
 
     pub update-modified : {n : Bool} → t ≡ true → n ≡ sameNamer h i R b → n ≡ true → UpdateIs store copy R i Rebase
     update-modified z x y = as-state Rebase tt q (rw (sym (is-modified h r q m) ∙ z, sym x ∙ y))
 
-    pub conflict-modified : {n : Bool} → t ≡ true → n ≡ sameNamer h i R b → n ≡ false → UpdateIs store copy R i Conflict
-    conflict-modified z x y = as-state Conflict tt q (rw (sym (is-modified h r q m) ∙ z, sym x ∙ y))
+    pub agreed-modified : {n : Bool} {u : Update} → t ≡ true → n ≡ sameNamer h i R b → n ≡ false → u ≡ agreedAs (isBytes (bytesOf copy i) (sheet h R i)) (f .block) → UpdateIs store copy R i u
+    agreed-modified {u = u} z x y w =
+        as-state u (agreed-inside w) q (agreed-means w (own-read r q refl) (normal b own) ∙ rw (sym (is-modified h r q m) ∙ z, sym x ∙ y))
 
   module _ {b : ℕ} (q : e .state ≡ Deleted b) {n : Bool} (x : n ≡ sameNamer h i R b) where
     pub update-deleted : n ≡ true → UpdateIs store copy R i Rebase
@@ -83,9 +126,10 @@ module _ (store copy : Bytes) (v : View) (o : Opened store v) (R i : ℕ) (le : 
     pub stay-copied : {s : Source} → e .state ≡ Copied s → UpdateIs store copy R i Stay
     stay-copied q = as-state Stay tt q (rw (found-none store v o R i le found z))
 
-  module _ (n : f .block ≡ 0 → ⊥) where
-    pub conflict-added : e .state ≡ Added → UpdateIs store copy R i Conflict
-    conflict-added q = as-state Conflict tt q (rw (found-some store v o R i le found n))
+  -- and else agrees with tree R, or is a conflict
+  module _ (n : f .block ≡ 0 → ⊥) {u : Update} (w : u ≡ agreedAs (isBytes (bytesOf copy i) (sheet h R i)) (f .block)) where
+    pub agreed-added : e .state ≡ Added → UpdateIs store copy R i u
+    agreed-added q = as-state u (agreed-inside w) q (agreed-means w (own-read r q refl) (added own) ∙ rw (found-some store v o R i le found n))
 
-    pub conflict-copied : {s : Source} → e .state ≡ Copied s → UpdateIs store copy R i Conflict
-    conflict-copied q = as-state Conflict tt q (rw (found-some store v o R i le found n))
+    pub agreed-copied : {s : Source} → e .state ≡ Copied s → UpdateIs store copy R i u
+    agreed-copied {s} q = as-state u (agreed-inside w) q (agreed-means w (own-read r q refl) (copied (s .sheet) (s .revision) own) ∙ rw (found-some store v o R i le found n))

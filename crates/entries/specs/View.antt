@@ -81,6 +81,10 @@ normalStatus later modified = cond later (cond modified 4 3) (cond modified 2 1)
 abbrev pub takenAs : ℕ → Update
 takenAs p = cond (eqb p 0) Clear (Take p)
 
+-- whether its bytes are those of tree R, which block p holds
+abbrev pub agreedAs : Bool → ℕ → Update
+agreedAs t p = cond t (Take p) Conflict
+
 -- the entry with its bytes and the base R
 abbrev pub rebased : ℕ → Entry → Entry
 rebased R empty = empty

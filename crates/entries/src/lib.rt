@@ -15,7 +15,7 @@ ghost use Rattle.model.specs.Store.{storeHistory};
 ghost use Rattle.model.specs.WorkCopy.{entriesOf};
 ghost use Rattle.store.specs.Opened.{openOf};
 ghost use Rattle.store.specs.declared.Opened.the-variants.{Open};
-ghost use Rattle.entries.specs.View.{Fitting, Opened, UpdateIs, Viewed, bytesOf, checkOf, entryIn, normalStatus, takenAs};
+ghost use Rattle.entries.specs.View.{Fitting, Opened, UpdateIs, Viewed, agreedAs, bytesOf, checkOf, entryIn, normalStatus, takenAs};
 
 // What is known of two buffers that are accepted: the store's blocks, its used blocks and last revision, and the copy's seat.
 pub struct View {
@@ -255,6 +255,17 @@ fn same_namer(store: &[u8], v: View, r: usize, b: usize, i: usize) -> bool
     f.revision == g.revision
 }
 
+// A pending entry whose bytes equal tree r's, which block p holds, is taken from there; any other is a conflict.
+fn agreed<'a>(store: &'a [u8], copy: &'a [u8], v: View, r: usize, i: usize, p: usize) -> Update
+    requires { ⌜ Viewed (now store) (now copy) v × (i < 32) × (r ≤ v .last) ⌝ }
+    ensures { λ x. ⌜ x ≡ agreedAs (isBytes (bytesOf (now (copy .entry)) i) (sheet (storeHistory (now (store .entry))) r i)) p ⌝ }
+{
+    if !differs(store, copy, v, i, r, i) {
+        return Update::Take(p);
+    }
+    Update::Conflict
+}
+
 // What an update to r makes of entry i.
 pub fn update_of<'a>(store: &'a [u8], copy: &'a [u8], v: View, r: usize, i: usize) -> Update
     requires { ⌜ Fitting (now store) (now copy) v × (i < 32) × (r ≤ v .last) ⌝ }
@@ -273,13 +284,13 @@ pub fn update_of<'a>(store: &'a [u8], copy: &'a [u8], v: View, r: usize, i: usiz
             if same_namer(store, v, r, base as usize, i) {
                 return Update::Rebase;
             }
-            Update::Conflict
+            agreed(store, copy, v, r, i, p)
         }
         State::Added => {
-            if p != 0 {
-                return Update::Conflict;
+            if p == 0 {
+                return Update::Stay;
             }
-            Update::Stay
+            agreed(store, copy, v, r, i, p)
         }
         State::Deleted(base) => {
             if same_namer(store, v, r, base as usize, i) {
@@ -288,10 +299,10 @@ pub fn update_of<'a>(store: &'a [u8], copy: &'a [u8], v: View, r: usize, i: usiz
             Update::Conflict
         }
         State::Copied(_) => {
-            if p != 0 {
-                return Update::Conflict;
+            if p == 0 {
+                return Update::Stay;
             }
-            Update::Stay
+            agreed(store, copy, v, r, i, p)
         }
     }
 }

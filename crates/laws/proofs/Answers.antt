@@ -1,20 +1,20 @@
 -- What a call answers: a number if and only if its line is the first that holds; read, after any list of calls; and what an update brings.
 -- Assumes nothing.
-use Prim.Native.Nat.{_+_, _<_, suc, zero, ℕ}
+use Prim.Native.Nat.{_<_, ℕ}
 use mathlib.Core.Bool.{Bool, _||_, cond, false, not, true}
-use mathlib.Core.List.{List, [], _∷_}
+use mathlib.Core.List.{List}
 use mathlib.Core.Option.{Option, none, some}
 use mathlib.Core.Path.{_∙_, _≡_, ap, refl}
 use native.Mathlib.Omega.{arith}
 use lib.ListN.{getD, length}
 use Rattle.model.specs.Entry.{Entry, added, copied, deleted, empty, modified, normal, ownBytes, pending}
 use Rattle.model.specs.History.{Bytes, History, change, names, newest, nothing, present, sheet}
-use Rattle.model.specs.Machine.{Add, Answer, Call, Commits, Copy, Delete, Edit, Log, Move, Read, Revert, Show, Side, State, Status, Update, asBytes, asIn, chosen, doing, entry, fresh, orElse, refusal, refused, sameNamer, shown, sideOf, updated, updatedTo}
+use Rattle.model.specs.Machine.{Add, Answer, Call, Commits, Copy, Delete, Edit, Log, Move, Read, Revert, Show, Side, State, Status, Update, agreed, asBytes, asIn, chosen, doing, entry, fresh, orElse, refusal, refused, sameNamer, shown, sideOf, updated, updatedTo}
 use Rattle.model.specs.Refusals.{conditions, firstOf, noSheet, tooLate}
-use Rattle.model.specs.Rows.{rows}
 use Rattle.model.specs.Run.{Turn, accepted, run, sideBy, sideStep, step, stepBy}
 use Rattle.laws.proofs.Conditions.{clear}
 use Rattle.laws.proofs.Lasting.{found}
+use Rattle.laws.proofs.Rows.{rows-at}
 
 shows : (o : Option Bytes) → not (present o) ≡ false → refusal (asBytes o) ≡ none
 shows none e = cc
@@ -77,23 +77,22 @@ read-after N ts seat R i =
 
 -- ---- update, by a seat with nothing pending: each chosen sheet comes to tree R's bytes, or is absent
 
+-- entry i of 32 after an update
+pub updated-at : (h : History) (mask R : ℕ) (es : List Entry) (i : ℕ) → i < length es
+    → getD (updated h mask R es) i empty ≡ cond (chosen mask i) (orElse (updatedTo h R i (getD es i empty)) (getD es i empty)) (getD es i empty)
+updated-at h mask R es i l = rows-at (λ i e. cond (chosen mask i) (orElse (updatedTo h R i e) e) e) empty empty es i l
+
 pub up-to-date : (h : History) (mask R : ℕ) (es : List Entry) (i : ℕ) → chosen mask i ≡ true → i < length es → pending h i (getD es i empty) ≡ false
     → getD (updated h mask R es) i empty ≡ asIn R (sheet h R i)
 up-to-date h mask R es i z l p =
-    rows-at (λ i e. cond (chosen mask i) (orElse (updatedTo h R i e) e) e) 0 es i l
-    ∙ (let e : 0 + i ≡ i = omega arith in rw (e, z) (brought (getD es i empty) p))
+    updated-at h mask R es i l ∙ rw z (brought (getD es i empty) p)
   where
-    rows-at : (f : ℕ → Entry → Entry) (k : ℕ) (l : List Entry) (i : ℕ) → i < length l → getD (rows f k l) i empty ≡ f (k + i) (getD l i empty)
-    rows-at f k [] i h = absurd (omega arith)
-    rows-at f k (a ∷ l) zero h = let e : k + 0 ≡ k = omega arith in rw e
-    rows-at f k (a ∷ l) (suc i) h = let e : k + suc i ≡ suc k + i = omega arith in rw e (rows-at f (suc k) l i (omega arith))
-
     brought : (e : Entry) → pending h i e ≡ false → orElse (updatedTo h R i e) e ≡ asIn R (sheet h R i)
     brought empty p = refl
     brought (normal b x) p = go (modified h i b x) refl p
       where
         go : (t : Bool) → modified h i b x ≡ t → names (cond t (change x) nothing) ≡ false
-            → orElse (cond t (cond (sameNamer h i R b) (some (normal R x)) none) (some (asIn R (sheet h R i)))) (normal b x) ≡ asIn R (sheet h R i)
+            → orElse (cond t (cond (sameNamer h i R b) (some (normal R x)) (agreed R x (sheet h R i))) (some (asIn R (sheet h R i)))) (normal b x) ≡ asIn R (sheet h R i)
         go true m q = let w : _≡_ {A = ℕ} 0 1 = cc in absurd (omega arith)
         go false m q = refl
     brought (added x) p = let w : _≡_ {A = ℕ} 0 1 = cc in absurd (omega arith)

@@ -15,7 +15,7 @@ use Rattle.model.specs.Demand3.{Brings, Demand3, Finds, NothingPending, copyIn}
 use Rattle.model.specs.Entry.{Entry, added, copied, deleted, empty, modified, normal, pending}
 use Rattle.model.specs.History.{History, change, last, names, nothing, sheet}
 use Rattle.model.specs.Invariant.{Kept}
-use Rattle.model.specs.Machine.{Answer, Side, State, Update, asBytes, asIn, chosen, doing, entry, fresh, sameNamer, sideOf, updated}
+use Rattle.model.specs.Machine.{Answer, Side, State, Update, agreed, asBytes, asIn, chosen, doing, entry, fresh, sameNamer, sideOf, updated}
 use Rattle.model.specs.Refusals.{conditions, conflict, firstOf, lacking, tooLate}
 use Rattle.model.specs.Rows.{some-row}
 use Rattle.model.specs.Run.{AllValid, Turn, accepted, answers, asked, isRevision, run, sideBy, sideStep, step}
@@ -67,12 +67,12 @@ read-found N b s R i W K le small =
     (let p : ltb 31 i ≡ false = le-ltb 31 i small in let q : ltb (last (s .history)) R ≡ false = le-ltb (last (s .history)) R le in ap₂ _||_ p q)
 
 -- a seat with nothing pending meets no conflict
-no-conflict : (h : History) (R i : ℕ) (e : Entry) → pending h i e ≡ false → conflict h R i e ≡ false
+pub no-conflict : (h : History) (R i : ℕ) (e : Entry) → pending h i e ≡ false → conflict h R i e ≡ false
 no-conflict h R i empty p = refl
 no-conflict h R i (normal b x) p = go (modified h i b x) p
   where
     go : (t : Bool) → names (cond t (change x) nothing) ≡ false
-        → lacking (cond t (cond (sameNamer h i R b) (some (normal R x)) none) (some (asIn R (sheet h R i)))) ≡ false
+        → lacking (cond t (cond (sameNamer h i R b) (some (normal R x)) (agreed R x (sheet h R i))) (some (asIn R (sheet h R i)))) ≡ false
     go true q = let w : _≡_ {A = ℕ} 0 1 = cc in absurd (omega arith)
     go false q = refl
 no-conflict h R i (added x) p = let w : _≡_ {A = ℕ} 0 1 = cc in absurd (omega arith)

@@ -11,15 +11,15 @@ use lib.Dec.{eqb, ltb}
 use lib.ListN.{getD, getD-replicate, length, length-append, length-set, replicate, set}
 use Rattle.block.specs.Lists.{All}
 use Rattle.model.specs.Entry.{Entry, added, changeFor, copied, deleted, empty, modified, normal, pending}
-use Rattle.model.specs.History.{Bytes, Change, Commit, History, add, change, changeOf, copy, delete, last, made, namedAfter, namer, names, newest, nothing, present, sheet}
+use Rattle.model.specs.History.{Bytes, Change, Commit, History, add, change, changeOf, copy, delete, isBytes, last, made, namedAfter, namer, names, newest, nothing, present, sheet}
 use Rattle.model.specs.Invariant.{Base, FitsAt, Kept, Made, Right, Short, Sound, usedBy}
-use Rattle.model.specs.Machine.{Add, Call, Commits, Copy, Delete, Edit, Log, Move, Read, Revert, Show, Side, State, Status, Update, asIn, blocksFor, chosen, commitChanges, committing, copyOf, count, doing, edited, entry, fresh, newCommit, orElse, put, removed, revertedOf, sameNamer, settled, sideOf, updatedTo, withEntries, withEntry}
+use Rattle.model.specs.Machine.{Add, Call, Commits, Copy, Delete, Edit, Log, Move, Read, Revert, Show, Side, State, Status, Update, agreed, asIn, blocksFor, chosen, commitChanges, committing, copyOf, count, doing, edited, entry, fresh, newCommit, orElse, put, removed, revertedOf, sameNamer, settled, sideOf, updatedTo, withEntries, withEntry}
 use Rattle.model.specs.Refusals.{conditions, firstOf, noSheet, outOfDate, tooLate}
 use Rattle.model.specs.Rows.{rows, some-row, total}
 use Rattle.model.specs.Run.{AllValid, Turn, Typed, Valid, run, step, stepBy}
 use Rattle.laws.proofs.Conditions.{clear}
 use Rattle.laws.proofs.Rows.{and-false, and-nothing, cond-any, cond-same, length-rows, no-row, or-false, replicate-any, rows-any, rows-get, set-any}
-use Rattle.laws.proofs.Trees.{Small, Wide, base-grown, same-namer, sheet-made, sheet-zero, small-tree, sound-grown, unnamed, used-grown}
+use Rattle.laws.proofs.Trees.{Small, Wide, base-grown, has-bytes, same-namer, sheet-made, sheet-zero, small-tree, sound-grown, unnamed, used-grown}
 
 -- ---- one entry
 
@@ -76,15 +76,24 @@ base-moved h R b i s le B e =
     let t : present (sheet h R i) ≡ true = ap present (same-namer h R b i s le (B .high) (eqb-true _ _ e)) ∙ B .there in
     record { low = positive h R i t; high = le; there = t }
 
+-- an entry whose bytes tree R has, or else as it was
+fits-agreed : (h : History) (R i : ℕ) (x : Bytes) (e : Entry) → R ≤ last h → Short x → FitsAt h i e → FitsAt h i (orElse (agreed R x (sheet h R i)) e)
+fits-agreed h R i x e le p f =
+    cond-any (λ (o : Option Entry). FitsAt h i (orElse o e)) (isBytes x (sheet h R i))
+    (λ z. let t = ap present (has-bytes x (sheet h R i) z) in (record { low = positive h R i t; high = le; there = t }, p))
+    (λ z. f)
+
 pub fits-updated : (h : History) (R i : ℕ) (e : Entry) → Sound h → R ≤ last h → FitsAt h i e → FitsAt h i (orElse (updatedTo h R i e) e)
 fits-updated h R i empty s le f = fits-asIn h R i s le
 fits-updated h R i (normal b x) s le f =
     cond-any (λ (o : Option Entry). FitsAt h i (orElse o (normal b x))) (modified h i b x)
-    (λ m. cond-any (λ (o : Option Entry). FitsAt h i (orElse o (normal b x))) (sameNamer h i R b) (λ e. (base-moved h R b i s le (f .0) e, f .1)) (λ e. f))
+    (λ m. cond-any (λ (o : Option Entry). FitsAt h i (orElse o (normal b x))) (sameNamer h i R b) (λ e. (base-moved h R b i s le (f .0) e, f .1)) (λ e. fits-agreed h R i x (normal b x) le (f .1) f))
     (λ m. fits-asIn h R i s le)
-fits-updated h R i (added x) s le f = cond-any (λ (o : Option Entry). FitsAt h i (orElse o (added x))) (present (sheet h R i)) (λ e. f) (λ e. f)
+fits-updated h R i (added x) s le f =
+    cond-any (λ (o : Option Entry). FitsAt h i (orElse o (added x))) (present (sheet h R i)) (λ e. fits-agreed h R i x (added x) le f f) (λ e. f)
 fits-updated h R i (deleted b) s le f = cond-any (λ (o : Option Entry). FitsAt h i (orElse o (deleted b))) (sameNamer h i R b) (λ e. base-moved h R b i s le f e) (λ e. f)
-fits-updated h R i (copied s′ r x) s le f = cond-any (λ (o : Option Entry). FitsAt h i (orElse o (copied s′ r x))) (present (sheet h R i)) (λ e. f) (λ e. f)
+fits-updated h R i (copied s′ r x) s le f =
+    cond-any (λ (o : Option Entry). FitsAt h i (orElse o (copied s′ r x))) (present (sheet h R i)) (λ e. fits-agreed h R i x (copied s′ r x) le (f .2) f) (λ e. f)
 
 still-there : (h : History) (b i : ℕ) → Sound h → Base h b i → namedAfter h b i ≡ false → present (newest h i) ≡ true
 still-there h b i s B e =

@@ -30,3 +30,4 @@ pub mod Demand3
 pub mod Replaying
 pub mod Order
 pub mod Ordered
+pub mod SameEdit

@@ -49,6 +49,15 @@ module _ {A B : Type 0} (P : B → Type 0) (f : ℕ → A → B) (d : A) (d′ :
   pub rows-any : (l : List A) (i : ℕ) → P d′ → P (f i (getD l i d)) → P (getD (rows f 0 l) i d′)
   rows-any l i p q = rows-any-from 0 l i p (rw zero-add q)
 
+module _ {A B : Type 0} (f : ℕ → A → B) (d : A) (d′ : B) where
+  rows-at-from : (k : ℕ) (l : List A) (i : ℕ) → i < length l → getD (rows f k l) i d′ ≡ f (k + i) (getD l i d)
+  rows-at-from k [] i h = absurd (omega arith)
+  rows-at-from k (a ∷ l) zero h = rw add-zero
+  rows-at-from k (a ∷ l) (suc i) h = rw (add-suc, ← suc-add) (rows-at-from (suc k) l i (omega arith))
+
+  pub rows-at : (l : List A) (i : ℕ) → i < length l → getD (rows f 0 l) i d′ ≡ f i (getD l i d)
+  rows-at l i h = rw zero-add at (rows-at-from 0 l i h)
+
 module _ {A B : Type 0} (f : ℕ → A → B) (d : A) (d′ : B) (e : (i : ℕ) → f i d ≡ d′) where
   rows-get-from : (k : ℕ) (l : List A) (i : ℕ) → getD (rows f k l) i d′ ≡ f (k + i) (getD l i d)
   rows-get-from k [] i = sym (e (k + i))
@@ -73,6 +82,32 @@ module _ {A : Type 0} (f : ℕ → A → Bool) (d : A) where
   no-rows k (a ∷ l) e =
       let p : f k a ≡ false = rw add-zero at (e 0 (omega arith)) in
       ap₂ _||_ p (no-rows (suc k) l (λ i h. let s : k + suc i ≡ suc k + i = omega arith in rw s at (e (suc i) (omega arith))))
+
+  -- a row that passes the test, where some row does
+  row-some-from : (k : ℕ) (l : List A) → some-row f k l ≡ true → (i : ℕ) × (i < length l) × (f (k + i) (getD l i d) ≡ true)
+  row-some-from k [] e = let z : _≡_ {A = ℕ} 0 1 = cc in absurd (omega arith)
+  row-some-from k (a ∷ l) e = go (f k a) refl e (λ q. row-some-from (suc k) l q)
+    where
+      go : (b : Bool) → f k a ≡ b → (b || some-row f (suc k) l) ≡ true → (some-row f (suc k) l ≡ true → (i : ℕ) × (i < length l) × (f (suc k + i) (getD l i d) ≡ true))
+          → (i : ℕ) × (i < length (a ∷ l)) × (f (k + i) (getD (a ∷ l) i d) ≡ true)
+      go true z e r = (0, omega arith, rw add-zero z)
+      go false z e r = let q = r e in (suc (q .0), omega (arith, q .1), rw (add-suc, ← suc-add) (q .2))
+
+  pub row-some : (l : List A) → some-row f 0 l ≡ true → (i : ℕ) × (i < length l) × (f i (getD l i d) ≡ true)
+  row-some l e = let q = row-some-from 0 l e in (q .0, q .1, rw zero-add at (q .2))
+
+  -- and back
+  some-row-from : (k : ℕ) (l : List A) (i : ℕ) → i < length l → f (k + i) (getD l i d) ≡ true → some-row f k l ≡ true
+  some-row-from k [] i h e = absurd (omega arith)
+  some-row-from k (a ∷ l) zero h e = rw (rw add-zero at e)
+  some-row-from k (a ∷ l) (suc i) h e = rw (some-row-from (suc k) l i (omega arith) (rw (add-suc, ← suc-add) at e)) (or-true (f k a))
+    where
+      or-true : (b : Bool) → (b || true) ≡ true
+      or-true true = refl
+      or-true false = refl
+
+  pub some-row-at : (l : List A) (i : ℕ) → i < length l → f i (getD l i d) ≡ true → some-row f 0 l ≡ true
+  some-row-at l i h e = some-row-from 0 l i h (rw zero-add e)
 
 module _ {A : Type 0} where
   pub set-any : (P : A → Type 0) (l : List A) (j i : ℕ) {e : A} (d : A) → (i ≡ j → P e) → P (getD l i d) → P (getD (set l j e) i d)

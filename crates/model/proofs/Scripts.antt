@@ -1,5 +1,5 @@
--- Two long scripts by four seats: every call, every status, every refusal from 7 to 13, and for every two lines that can hold of one call a call of which both hold. Together with
--- the handover cases they tell the machine of document 01 from its likely mistakes (crates/model/must-fail).
+-- Long scripts by four seats. The first two: every call, every status, every refusal from 7 to 13, and for every two lines that can hold of one call a call of which both hold. The
+-- third: the cases of W2. Together with the handover cases they tell the machine of the documents from its likely mistakes (crates/model/must-fail).
 -- Assumes nothing.
 use Prim.Native.Nat.{_+_, _^_}
 use mathlib.Core.List.{[], _∷_, map}
@@ -163,7 +163,75 @@ second =
     ∷ 2 does Read 7 0 says refused 8
     ∷ []) 13
 
+-- 61 calls, W2: the same edit, an edit that agrees with tree R and not with the last tree, and the other way round; added and copied entries that agree, an empty sheet, a sheet that
+-- tree R lacks; a sheet that both seats deleted, bytes of the same length, and an entry that agrees beside a conflict
+abbrev third : Case
+third =
+    case 16
+    (1 does Add 0 (30 ∷ []) says done
+    ∷ 1 does Add 1 [] says done
+    ∷ 1 does Add 2 (7 ∷ []) says done
+    ∷ 1 does Commits 0 everything says revision 1
+    ∷ 2 does Update everything 1 says done
+    ∷ 3 does Update everything 1 says done
+    ∷ 4 does Update everything 1 says done
+    ∷ 1 does Edit 0 (45 ∷ []) says done
+    ∷ 2 does Edit 0 (45 ∷ []) says done
+    ∷ 1 does Commits 1 everything says revision 2
+    ∷ 2 does Status 0 says status 4
+    ∷ 2 does Commits 2 everything says refused 11
+    ∷ 2 does Update everything 2 says done
+    ∷ 2 does Status 0 says status 1
+    ∷ 2 does Commits 2 everything says refused 10
+    ∷ 1 does Edit 0 (60 ∷ []) says done
+    ∷ 1 does Commits 3 everything says revision 3
+    ∷ 3 does Edit 0 (45 ∷ []) says done
+    ∷ 3 does Update 1 3 says refused 12
+    ∷ 3 does Update 1 2 says done
+    ∷ 3 does Status 0 says status 3
+    ∷ 4 does Edit 0 (60 ∷ []) says done
+    ∷ 4 does Update 1 2 says refused 12
+    ∷ 4 does Update 1 3 says done
+    ∷ 4 does Status 0 says status 1
+    ∷ 1 does Add 5 (9 ∷ 9 ∷ []) says done
+    ∷ 1 does Copy 2 6 says done
+    ∷ 1 does Commits 4 everything says revision 4
+    ∷ 2 does Add 5 (9 ∷ 9 ∷ []) says done
+    ∷ 2 does Commits 5 (2 ^ 5) says refused 11
+    ∷ 2 does Add 6 (7 ∷ []) says done
+    ∷ 2 does Update (2 ^ 5 + 2 ^ 6) 3 says done
+    ∷ 2 does Status 5 says status 5
+    ∷ 2 does Update everything 4 says done
+    ∷ 2 does Status 5 says status 1
+    ∷ 2 does Status 6 says status 1
+    ∷ 2 does Commits 5 everything says refused 10
+    ∷ 3 does Update (2 ^ 2) 4 says done
+    ∷ 3 does Copy 2 6 says done
+    ∷ 3 does Status 6 says status 7
+    ∷ 3 does Commits 6 (2 ^ 6) says refused 11
+    ∷ 3 does Update (2 ^ 6) 4 says done
+    ∷ 3 does Status 6 says status 1
+    ∷ 3 does Edit 6 (8 ∷ []) says done
+    ∷ 3 does Commits 6 (2 ^ 6) says revision 5
+    ∷ 3 does Log 5 6 says logged 3 6 1 2 0 0
+    ∷ 1 does Delete 2 says done
+    ∷ 1 does Add 8 [] says done
+    ∷ 1 does Commits 7 everything says revision 6
+    ∷ 4 does Delete 2 says done
+    ∷ 4 does Update (2 ^ 2) 6 says refused 12
+    ∷ 4 does Status 2 says status 6
+    ∷ 4 does Add 8 [] says done
+    ∷ 4 does Update (2 ^ 8) 5 says done
+    ∷ 4 does Status 8 says status 5
+    ∷ 4 does Add 5 (9 ∷ 8 ∷ []) says done
+    ∷ 4 does Update (2 ^ 5 + 2 ^ 8) 6 says refused 12
+    ∷ 4 does Status 8 says status 5
+    ∷ 4 does Update (2 ^ 8) 6 says done
+    ∷ 4 does Status 8 says status 1
+    ∷ 4 does Status 5 says status 5
+    ∷ []) 15
+
 -- one check over the rows
-pub scripts : map finds (first ∷ second ∷ []) ≡ map states (first ∷ second ∷ [])
+pub scripts : map finds (first ∷ second ∷ third ∷ []) ≡ map states (first ∷ second ∷ third ∷ [])
 unfolding tree
 scripts = refl

@@ -21,3 +21,4 @@ pub mod Demand2
 pub mod Demand3
 pub mod Order
 pub mod Ordered
+pub mod SameEdit

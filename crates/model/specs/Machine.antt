@@ -158,16 +158,20 @@ asIn R (some x) = normal R x
 abbrev pub sameNamer : History → ℕ → ℕ → ℕ → Bool
 sameNamer h i R b = eqb (namer h R i) (namer h b i)
 
+-- W2: "An update to R takes a chosen modified, added or copied entry whose bytes equal tree R's as normal with base R.", where tree R has this for the entry's own sheet; any other is a conflict
+abbrev pub agreed : ℕ → Bytes → Option Bytes → Option Entry
+agreed R x t = cond (isBytes x t) (some (normal R x)) none
+
 -- what update makes of a chosen entry, or nothing where it is a conflict
 abbrev pub updatedTo : History → ℕ → ℕ → Entry → Option Entry
 updatedTo h R i empty = some (asIn R (sheet h R i))
 updatedTo h R i (normal b x) =
     cond (modified h i b x)
-    (cond (sameNamer h i R b) (some (normal R x)) none)
+    (cond (sameNamer h i R b) (some (normal R x)) (agreed R x (sheet h R i)))
     (some (asIn R (sheet h R i)))
-updatedTo h R i (added x) = cond (present (sheet h R i)) none (some (added x))
+updatedTo h R i (added x) = cond (present (sheet h R i)) (agreed R x (sheet h R i)) (some (added x))
 updatedTo h R i (deleted b) = cond (sameNamer h i R b) (some (deleted R)) none
-updatedTo h R i (copied s r x) = cond (present (sheet h R i)) none (some (copied s r x))
+updatedTo h R i (copied s r x) = cond (present (sheet h R i)) (agreed R x (sheet h R i)) (some (copied s r x))
 
 abbrev pub orElse : Option Entry → Entry → Entry
 orElse none e = e

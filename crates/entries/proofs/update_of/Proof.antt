@@ -3,7 +3,7 @@
 use borrow.Author.Needs.{needs}
 use borrow.Author.Tests.{not-false, not-true}
 use Rattle.entries.proofs.States.{deleted-base, normal-base}
-use Rattle.entries.proofs.Updating.{conflict-added, conflict-copied, conflict-deleted, conflict-modified, stay-added, stay-copied, update-deleted, update-empty, update-modified, update-unmodified}
+use Rattle.entries.proofs.Updating.{agreed-added, agreed-copied, agreed-modified, conflict-deleted, stay-added, stay-copied, update-deleted, update-empty, update-modified, update-unmodified}
 use Rattle.entries.proofs.update_of.Statement.{statement}
 use Rattle.entries.proofs.update_of.Tie as tie
 
@@ -53,14 +53,20 @@ returns-2 c =
     update-modified (k .args .store .now) (k .args .copy .now) (k .args .v) (k .pre .0 .viewed .opened) (k .args .r) (k .args .i) (k .pre .2) (c .before .before .before .before .before .before .before .before .look-up .ensures) (c .before .before .before .before .before .before .before .entry-at .ensures)
     (c .before .before .before .before .before .state .given .1) (c .before .before .before .differs .ensures) (not-false _ (c .before .before .if1 .left)) (c .before .same-namer .ensures) (c .if2 .taken)
 
+agreed-requires : tie.Need-agreed-requires
+agreed-requires c κs = search needs
+
 enum-told-2 : tie.Need-enum-told-2
 enum-told-2 c = search needs
 
 returns-3 : tie.Need-returns-3
 returns-3 c =
     let k = c .before .before .before .before .before .before .before in
-    conflict-added (k .args .store .now) (k .args .copy .now) (k .args .v) (k .pre .0 .viewed .opened) (k .args .r) (k .args .i) (k .pre .2) (c .before .before .before .before .look-up .ensures) (c .before .before .before .entry-at .ensures)
+    stay-added (k .args .store .now) (k .args .copy .now) (k .args .v) (k .pre .0 .viewed .opened) (k .args .r) (k .args .i) (k .pre .2) (c .before .before .before .before .look-up .ensures) (c .before .before .before .entry-at .ensures)
     (c .if3 .taken) (c .before .enum-told2 .given .1)
+
+agreed-requires-2 : tie.Need-agreed-requires-2
+agreed-requires-2 c κs = search needs
 
 enum-known-state-2 : tie.Need-enum-known-state-2
 enum-known-state-2 c = search needs
@@ -85,8 +91,11 @@ enum-told-3 c = search needs
 returns-5 : tie.Need-returns-5
 returns-5 c =
     let k = c .before .before .before .before .before .before .before in
-    conflict-copied (k .args .store .now) (k .args .copy .now) (k .args .v) (k .pre .0 .viewed .opened) (k .args .r) (k .args .i) (k .pre .2) (c .before .before .before .before .look-up .ensures) (c .before .before .before .entry-at .ensures)
+    stay-copied (k .args .store .now) (k .args .copy .now) (k .args .v) (k .pre .0 .viewed .opened) (k .args .r) (k .args .i) (k .pre .2) (c .before .before .before .before .look-up .ensures) (c .before .before .before .entry-at .ensures)
     (c .if5 .taken) (c .before .enum-told3 .given .1)
+
+agreed-requires-3 : tie.Need-agreed-requires-3
+agreed-requires-3 c κs = search needs
 
 returns-6 : tie.Need-returns-6
 returns-6 c =
@@ -96,15 +105,15 @@ returns-6 c =
 
 returns-7 : tie.Need-returns-7
 returns-7 c =
-    let k = c .before .before .before .before .before .before .before .before .before .before .before in
-    conflict-modified (k .args .store .now) (k .args .copy .now) (k .args .v) (k .pre .0 .viewed .opened) (k .args .r) (k .args .i) (k .pre .2) (c .before .before .before .before .before .before .before .before .look-up .ensures) (c .before .before .before .before .before .before .before .entry-at .ensures)
-    (c .before .before .before .before .before .state .given .1) (c .before .before .before .differs .ensures) (not-false _ (c .before .before .if1 .left)) (c .before .same-namer .ensures) (c .if2 .left)
+    let k = c .before .before .before .before .before .before .before .before .before .before .before .before in
+    agreed-modified (k .args .store .now) (k .args .copy .now) (k .args .v) (k .pre .0 .viewed .opened) (k .args .r) (k .args .i) (k .pre .2) (c .before .before .before .before .before .before .before .before .before .look-up .ensures) (c .before .before .before .before .before .before .before .before .entry-at .ensures)
+    (c .before .before .before .before .before .before .state .given .1) (c .before .before .before .before .differs .ensures) (not-false _ (c .before .before .before .if1 .left)) (c .before .before .same-namer .ensures) (c .before .if2 .left) (c .agreed .ensures)
 
 returns-8 : tie.Need-returns-8
 returns-8 c =
-    let k = c .before .before .before .before .before .before .before in
-    stay-added (k .args .store .now) (k .args .copy .now) (k .args .v) (k .pre .0 .viewed .opened) (k .args .r) (k .args .i) (k .pre .2) (c .before .before .before .before .look-up .ensures) (c .before .before .before .entry-at .ensures)
-    (c .if3 .left) (c .before .enum-told2 .given .1)
+    let k = c .before .before .before .before .before .before .before .before in
+    agreed-added (k .args .store .now) (k .args .copy .now) (k .args .v) (k .pre .0 .viewed .opened) (k .args .r) (k .args .i) (k .pre .2) (c .before .before .before .before .before .look-up .ensures) (c .before .before .before .before .entry-at .ensures)
+    (c .before .if3 .left) (c .agreed2 .ensures) (c .before .before .enum-told2 .given .1)
 
 returns-9 : tie.Need-returns-9
 returns-9 c =
@@ -114,9 +123,9 @@ returns-9 c =
 
 returns-10 : tie.Need-returns-10
 returns-10 c =
-    let k = c .before .before .before .before .before .before .before in
-    stay-copied (k .args .store .now) (k .args .copy .now) (k .args .v) (k .pre .0 .viewed .opened) (k .args .r) (k .args .i) (k .pre .2) (c .before .before .before .before .look-up .ensures) (c .before .before .before .entry-at .ensures)
-    (c .if5 .left) (c .before .enum-told3 .given .1)
+    let k = c .before .before .before .before .before .before .before .before in
+    agreed-copied (k .args .store .now) (k .args .copy .now) (k .args .v) (k .pre .0 .viewed .opened) (k .args .r) (k .args .i) (k .pre .2) (c .before .before .before .before .before .look-up .ensures) (c .before .before .before .before .entry-at .ensures)
+    (c .before .if5 .left) (c .agreed3 .ensures) (c .before .before .enum-told3 .given .1)
 
 pub update-of-spec : {M : Type 1} → statement M
 update-of-spec =
@@ -134,14 +143,17 @@ update-of-spec =
     cast-same-namer
     same-namer-requires
     returns-2
+    agreed-requires
     enum-told-2
     returns-3
+    agreed-requires-2
     enum-known-state-2
     cast-same-namer-2
     same-namer-requires-2
     returns-4
     enum-told-3
     returns-5
+    agreed-requires-3
     returns-6
     returns-7
     returns-8
