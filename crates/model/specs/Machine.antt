@@ -158,7 +158,8 @@ asIn R (some x) = normal R x
 abbrev pub sameNamer : History → ℕ → ℕ → ℕ → Bool
 sameNamer h i R b = eqb (namer h R i) (namer h b i)
 
--- W2: "An update to R takes a chosen modified, added or copied entry whose bytes equal tree R's as normal with base R.", where tree R has this for the entry's own sheet; any other is a conflict
+-- W2: "An update to R takes a chosen modified, added or copied entry whose bytes equal tree R's as normal with base R." Here x are the entry's bytes, and t is what tree R has of its
+-- own sheet. "Every other chosen entry is a conflict."
 abbrev pub agreed : ℕ → Bytes → Option Bytes → Option Entry
 agreed R x t = cond (isBytes x t) (some (normal R x)) none
 
