@@ -1,4 +1,5 @@
-"""A model of document 01 in plain data, made apart from the engine: no buffers, no blocks, nothing shared with the crates.
+"""A model of document 01, with the requests of document 02 up to W2, in plain data, made apart from the engine: no buffers, no blocks, nothing shared with the
+crates. W1 moves nothing here: it is the order of the blocks, in layout.py. W2 moves update.
 
 A tree is a dict from sheet to bytes. A change is (action, bytes, source); a commit is (seat, stamp, {sheet: change}).
 An entry is ('empty',), ('normal', base, bytes), ('added', bytes), ('deleted', base) or ('copied', (sheet, revision), bytes).
@@ -70,11 +71,19 @@ class Machine:
             return int(self.tree(source[1])[source[0]] != data)
         return int(action != DELETE)
 
+    def agrees(self, sheet, entry, revision):
+        """W2: a "modified, added or copied entry whose bytes equal tree R's". An absent sheet equals nothing."""
+        if entry[0] not in ('added', 'copied') and not self.modified(sheet, entry):
+            return False
+        return self.tree(revision).get(sheet) == entry[-1]
+
     def updated(self, sheet, entry, revision):
         """What update makes of a chosen entry, or None for a conflict."""
         tree = self.tree(revision)
         if not self.pending(sheet, entry):
             return ('normal', revision, tree[sheet]) if sheet in tree else EMPTY
+        if self.agrees(sheet, entry, revision):  # W2: update takes it "as normal with base R"
+            return ('normal', revision, entry[-1])
         if entry[0] in ('normal', 'deleted'):
             if self.namer(revision, sheet) == self.namer(entry[1], sheet):
                 return (entry[0], revision, *entry[2:])
