@@ -1,14 +1,14 @@
 #!/usr/bin/env python3
 """Lists of calls by four seats through the engine's C library, held to the model after every call.
 
-calls.py [--seed N] [--lists N] [--only K] [FILE..]
+calls.py [--seed N] [--lists N] [--only K]
 
 For each list a fresh store of 2 to 4,096 blocks and four fresh copies; answers, every byte of every buffer, and reads are compared. Then damage: bytes of the
 buffers changed, resealed or not, blocks exchanged, lengths wrong; the first refusal that holds by tests/model/accept.py must come and nothing may change, and
-where the buffers are accepted all the same, the call must do as the model does. A FILE has lists made elsewhere (one JSON object a line, as tests/lists.py
-reads them). At the first list that fails its seed and number are printed: `--seed N --only K` runs that list alone.
+where the buffers are accepted all the same, the call must do as the model does. How often updates met what W2 of document 02 is about is printed, and that some
+of it never came is a failure. At the first list that fails its seed and number are printed: `--seed N --only K` runs that list alone.
 """
-import argparse, json, pathlib, random, sys
+import argparse, pathlib, random, sys
 
 sys.path.insert(0, str(pathlib.Path(__file__).resolve().parent))
 sys.path.insert(0, str(pathlib.Path(__file__).resolve().parent / 'model'))
@@ -18,6 +18,7 @@ from engine import Engine
 CHANGING = ('add', 'edit', 'delete', 'copy', 'move', 'commit', 'update', 'revert')
 STORE_ONLY = ('read', 'log')
 ALL = 0xffffffff
+LISTS = 60
 calls = failed = 0
 
 
@@ -32,7 +33,7 @@ def played(model, store, some):
     """The model's answers to these calls, and the store after them. The store has the model's history, in any order."""
     answers = []
     for c in some:
-        answers.append(model.call(*c))
+        answers.append(lists.made(model, c))
         if answers[-1][0] == 'revision':
             store = layout.appended(store, model.history[-1])
     return answers, store
@@ -162,26 +163,31 @@ def damage(rng, store, copy, last):
 
 
 def damaged(engine, rng, desk):
-    """Damaged buffers: the refusal that comes first and nothing changed, or a call as the model does it."""
-    global calls
+    """Calls on damaged buffers."""
     for _ in range(40 if desk.model.blocks <= 200 else 8):
         seat = rng.randint(1, 4)
         store, copy = bytearray(desk.store), bytearray(desk.copies[seat])
         for _ in range(rng.choice([1, 1, 2])):
             damage(rng, store, copy, desk.model.last())
         name, _, *args = lists.random_call(rng, desk.model)
-        calls += 1
-        before = bytes(store), bytes(copy)
-        number = accept.refusal(store, None if name in STORE_ONLY else copy)
-        got = engine.call(name, store, copy, *args)
-        what = f'{name} {args} on damaged buffers'
-        if number:
-            if got != ('no', number):
-                fail(f'{what}: {got}, not {number}')
-            if (bytes(store), bytes(copy)) != before:
-                fail(f'{what} changed a buffer')
-        else:
-            accepted(what, name, args, got, before, store, copy)
+        on_buffers(engine, f'{name} {args} on damaged buffers', name, args, store, copy)
+
+
+def on_buffers(engine, what, name, args, store, copy):
+    """A call on buffers of any origin: the refusal that comes first and nothing changed, or as the model does it. Its answer."""
+    global calls
+    calls += 1
+    before = bytes(store), bytes(copy)
+    number = accept.refusal(store, None if name in STORE_ONLY else copy)
+    got = engine.call(name, store, copy, *args)
+    if number:
+        if got != ('no', number):
+            fail(f'{what}: {got}, not {number}')
+        if (bytes(store), bytes(copy)) != before:
+            fail(f'{what} changed a buffer')
+    else:
+        accepted(what, name, args, got, before, store, copy)
+    return got
 
 
 def accepted(what, name, args, got, before, store, copy):
@@ -201,27 +207,11 @@ def accepted(what, name, args, got, before, store, copy):
         fail(f'{what} leaves another copy')
 
 
-def from_file(engine, path):
-    plain = lambda x: tuple(plain(y) if isinstance(y, (list, tuple)) else y for y in x)
-    for number, line in enumerate(open(path)):
-        blocks, cs, answers, used, history, seats = lists.from_json(json.loads(line))
-        desk = Desk.fresh(engine, blocks)
-        for c, a in zip(cs, answers):
-            answer = desk.call(*c)
-            if plain(answer) != plain(a):
-                fail(f'{path}, list {number}: {c}: {answer}, not {a}')
-        desk.whole()
-        written = lambda *end: lists.theorems(blocks, cs, answers, *end)
-        if written(desk.model.used, desk.model.history, desk.model.seats) != written(used, history, seats):
-            fail(f'{path}, list {number}: another end')
-
-
 def main():
     parser = argparse.ArgumentParser(description=__doc__, formatter_class=argparse.RawDescriptionHelpFormatter)
     parser.add_argument('--seed', type=int, default=1)
-    parser.add_argument('--lists', type=int, default=60)
+    parser.add_argument('--lists', type=int, default=LISTS)
     parser.add_argument('--only', type=int, metavar='K')
-    parser.add_argument('files', nargs='*', metavar='FILE')
     given = parser.parse_args()
     engine = Engine()
     for n in range(given.lists) if given.only is None else [given.only]:
@@ -230,10 +220,9 @@ def main():
         if failed:
             print(f'failed in this list: tests/calls.py --seed {given.seed} --only {n}')
             break
-    for path in given.files:
-        from_file(engine, path)
+    never = lists.tally(given.only is None and given.lists >= LISTS and not failed)
     print(f'{calls} calls, {failed} wrong')
-    sys.exit(failed != 0)
+    sys.exit(failed + never != 0)
 
 
 if __name__ == '__main__':

@@ -72,19 +72,26 @@ class Engine:
     def create_copy(self, copy, seat):
         return self._answer('create_copy', copy, seat)
 
-    def read(self, store, revision, sheet):
-        r = self._call('read', store, revision, sheet)
-        return self._part(r, store, None)
-
-    def show(self, store, copy, sheet):
-        return self._part(self._call('show', store, copy, sheet), store, copy)
-
-    @staticmethod
-    def _part(r, store, copy):
+    def part(self, name, store, copy, *args):
+        """Where read or show finds the bytes: ('part', 'store' or 'copy', place, length)."""
+        r = self._call(name, store, *(() if name == 'read' else (copy,)), *args)
         if r.refusal:
             assert (r.buffer, r.start, r.len) == (0, 0, 0)
             return ('no', r.refusal)
-        return ('bytes', bytes((store, copy)[r.buffer][r.start:r.start + r.len]))
+        return ('part', ('store', 'copy')[r.buffer], r.start, r.len)
+
+    def read(self, store, revision, sheet):
+        return self._bytes('read', store, None, revision, sheet)
+
+    def show(self, store, copy, sheet):
+        return self._bytes('show', store, copy, sheet)
+
+    def _bytes(self, name, store, copy, *args):
+        found = self.part(name, store, copy, *args)
+        if found[0] == 'no':
+            return found
+        _, buffer, start, length = found
+        return ('bytes', bytes({'store': store, 'copy': copy}[buffer][start:start + length]))
 
     def log(self, store, revision, sheet):
         r = self._call('log', store, revision, sheet)

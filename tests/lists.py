@@ -1,13 +1,13 @@
 #!/usr/bin/env python3
 """Computes the machine of crates/model by the prover on whole lists of calls, and holds it to lists made elsewhere.
 
-lists.py FILE        every list of a file of lists (one JSON object a line: n, calls, answers, used, history, entries)
+lists.py FILE        every list of a file of lists, one JSON object a line: see tests/vectors/README.md
 lists.py --random N [SEED]   a list of N random calls by four seats, with the answers and the end of tests/model
 
 For each list two theorems by `refl` are written to target/lists: the machine's answers are those of the list, and its
 state at the end is the list's. Then the prover checks them.
 """
-import json, os, pathlib, random, subprocess, sys
+import collections, json, os, pathlib, random, subprocess, sys
 
 ROOT = pathlib.Path(__file__).resolve().parent.parent
 sys.path.insert(0, str(ROOT / 'tests' / 'model'))
@@ -78,27 +78,85 @@ def theorems(n, calls, answers, used, history, seats):
 
 
 def from_json(l):
-    """A list of the file, in the model's terms."""
+    """A list of a file in the model's terms: blocks, calls, answers, and at the end used blocks, history and entries."""
+    tuples = lambda x: tuple(map(tuples, x)) if isinstance(x, list) else x
+    hexed = lambda x: None if x is None else bytes.fromhex(x)
+
     def args(c):
         seat, rest = (1, c[1:]) if c[0] in ('read', 'log') else (c[1], c[2:])
-        return (c[0], seat, *(bytes.fromhex(x) if isinstance(x, str) else x for x in rest))
+        return (c[0], seat, *(hexed(x) if isinstance(x, str) else x for x in rest))
 
     def said(a):
-        return (a[0], bytes.fromhex(a[1])) if a[0] == 'bytes' else tuple(a)
+        return ('bytes', hexed(a[1])) if a[0] == 'bytes' else tuples(a)
 
     def change_of(x):
-        return (x['action'], bytes.fromhex(x['data'] or ''), x['source'])
+        return (x['action'], hexed(x['data']), tuples(x['source']))
 
     def entry_of(e):
-        b = bytes.fromhex(e['data'])
-        return [('empty',), ('normal', e['base'], b), ('added', b), ('deleted', e['base']), ('copied', e['source'], b)][e['state']]
+        b = hexed(e['data'])
+        return [('normal', e['base'], b), ('added', b), ('deleted', e['base']), ('copied', tuples(e['source']), b)][e['state'] - 1]
 
-    history = [(c['seat'], c['stamp'], {int(i): change_of(x) for i, x in c['changes'].items()}) for c in l['history']]
-    seats = {k: [entry_of(e) for e in l['entries'][str(k)]] for k in (1, 2, 3, 4)}
-    return l['n'], [args(c) for c in l['calls']], [said(a) for a in l['answers']], l['used'], history, seats
+    end, seats = l['end'], {k: [sheets.EMPTY] * 32 for k in (1, 2, 3, 4)}
+    commits = [item['commit'] for item in end['history']['items']]
+    history = [(c['seat'], c['stamp'], {int(i): change_of(x) for i, x in c['changes'].items()}) for c in commits]
+    for k, entries in end['entries'].items():
+        for i, e in entries.items():
+            seats[int(k)][int(i)] = entry_of(e)
+    return l['n'], [args(c) for c in l['calls']], [said(a) for a in l['answers']], end['used'], history, seats
+
+
+# ---- random calls
+
+W2 = ('modified that agree', 'added that agree', 'copied that agree', 'empty that agree', 'that agree with an older tree alone', 'that agree beside a conflict',
+      'conflicts equal to the last tree alone', 'conflicts of equal length', 'conflicts deleted by both')
+seen = collections.Counter()
+
+
+def met(m, seat, mask, revision):
+    """What of W2 an update meets."""
+    tree, last = m.tree(revision), m.tree(m.last())
+    chosen = [(i, e) for i, e in enumerate(m.seats[seat]) if mask >> i & 1 and m.pending(i, e)]
+    conflicts = [(i, e) for i, e in chosen if m.updated(i, e, revision) is None]
+    for i, e in conflicts:
+        if e[0] == 'deleted':
+            if i not in tree and m.namer(revision, i) > e[1]:
+                yield 'conflicts deleted by both'
+        elif last.get(i) == e[-1]:
+            yield 'conflicts equal to the last tree alone'
+        elif i in tree and len(tree[i]) == len(e[-1]):
+            yield 'conflicts of equal length'
+    for i, e in chosen:
+        if not m.agrees(i, e, revision):
+            continue
+        if conflicts:
+            yield 'that agree beside a conflict'
+            continue
+        yield {'normal': 'modified'}.get(e[0], e[0]) + ' that agree'
+        if e[-1] == b'':
+            yield 'empty that agree'
+        if last.get(i) != e[-1]:
+            yield 'that agree with an older tree alone'
+
+
+def made(m, call):
+    """The model makes the call. What of W2 it meets is counted."""
+    if call[0] == 'update' and call[3] <= m.last():
+        seen.update(met(m, *call[1:]))
+    return m.call(*call)
+
+
+def tally(enough):
+    """Prints how often the calls met entries that W2 is about. How many of them never came, where the calls were enough."""
+    never = [what for what in W2 if not seen[what]] if enough else []
+    print('W2, entries of updates: ' + '; '.join(f'{what}: {seen[what]}' for what in W2))
+    for what in never:
+        print(f'none came: {what}')
+    return len(never)
 
 
 def random_call(rng, m):
+    if m.history and rng.random() < 0.3:
+        return same_edit(rng, m)
     name = rng.choice(list(NAMES) + ['add', 'edit', 'commit', 'commit', 'update'])
     sheet = lambda: rng.choice([0, 1, 2, 3, 5, 7, 31, 31, rng.randrange(34)])
     mask = lambda: rng.choice([0xffffffff, rng.getrandbits(32), 1 << sheet() % 32, 0])
@@ -111,20 +169,53 @@ def random_call(rng, m):
     return (name, rng.randint(1, 4), *args[name]())
 
 
+def same_edit(rng, m):
+    """A call that leads to W2. A seat types what a revision has of a sheet, or copies a sheet there first; updates an entry that agrees; deletes what the last
+    tree lacks, and updates that; or commits."""
+    seat, revisions = rng.randint(1, 4), [m.last(), rng.randint(1, m.last()), rng.randint(1, m.last())]
+    entries, trees = m.seats[seat], {r: m.tree(r) for r in revisions}
+    there = [(i, r) for r in revisions for i in trees[r] if entries[i][0] != 'deleted']
+    agreeing = [(i, r) for i, r in there if entries[i][-1] == trees[r][i] and m.agrees(i, entries[i], r)]
+    other = [(i, r) for i, r in there if entries[i][-1] != trees[r][i]]
+    gone = [i for i, e in enumerate(entries) if e[0] in ('normal', 'deleted') and i not in trees[m.last()]]
+    if gone and rng.random() < 0.15:
+        sheet = rng.choice(gone)
+        return ('delete', seat, sheet) if entries[sheet][0] == 'normal' else ('update', seat, 1 << sheet, m.last())
+    if agreeing and rng.random() < 0.7:
+        sheet, revision = rng.choice(agreeing)
+        before = m.namer(revision, sheet) - 1  # the sheet had other bytes there, or none
+        return ('update', seat, rng.choice([1 << sheet, 1 << sheet, 0xffffffff]), rng.choice([revision, revision, before]))
+    if not other or rng.random() < 0.25:
+        current = [i for i, e in enumerate(entries) if m.pending(i, e) and not m.out_of_date(i, e)]
+        return ('commit', seat, rng.getrandbits(32), 1 << rng.choice(current or [31]))
+    normal = [i for i, e in enumerate(entries) if e[0] == 'normal']
+    sheet, revision = rng.choice([(i, r) for i, r in other if i in normal] or other if rng.random() < 0.5 else other)
+    if entries[sheet] == sheets.EMPTY and normal and rng.random() < 0.5:
+        return ('copy', seat, rng.choice(normal), sheet)
+    data = bytearray(trees[revision][sheet])
+    if data and rng.random() < 0.1:  # nearly the same
+        data[rng.randrange(len(data))] ^= 1 << rng.randrange(8)
+    return ('add' if entries[sheet] == sheets.EMPTY else 'edit', seat, sheet, bytes(data))
+
+
 def random_list(count, seed):
-    rng = random.Random(seed)
-    m = sheets.Machine(4096)
-    calls, answers = [], []
-    for _ in range(count):
-        c = random_call(rng, m)
-        calls.append(c)
-        answers.append(m.call(*c))
+    """Random calls by four seats: the seed's first list that has all of W2, if one of twenty has."""
+    for n in range(20):
+        rng, m, calls, answers = random.Random(f'{seed} {n}'), sheets.Machine(4096), [], []
+        seen.clear()
+        while len(calls) < count:
+            calls.append(random_call(rng, m))
+            answers.append(made(m, calls[-1]))
+        if all(seen[what] for what in W2):
+            break
     return 4096, calls, answers, m.used, m.history, m.seats
 
 
 def main():
     if len(sys.argv) >= 3 and sys.argv[1] == '--random':
         lists = [random_list(int(sys.argv[2]), int(sys.argv[3]) if len(sys.argv) > 3 else 1)]
+        if tally(int(sys.argv[2]) >= 1000):
+            sys.exit(1)
     elif len(sys.argv) == 2:
         lists = [from_json(json.loads(line)) for line in open(sys.argv[1])]
     else:

@@ -4,21 +4,24 @@
 program.py [--seed N] [--inputs N] [PROGRAM]
 
 Each input of tests/vectors/program is run on the model and on the engine's C library, by the reading of lines in tests/model/program.py; what is printed must be
-the sample's output. Random inputs are run on both, and must agree. With a PROGRAM, it is run on all of them too.
+the sample's output. Random inputs are run on both, and must agree; what their `up` lines met of W2 is counted as in tests/calls.py. With a PROGRAM, it is run on
+all of them too.
 """
 import argparse, pathlib, random, subprocess, sys
 
 ROOT = pathlib.Path(__file__).resolve().parent
 sys.path.insert(0, str(ROOT))
 sys.path.insert(0, str(ROOT / 'model'))
-import layout, program, sheets
+import layout, lists, program, sheets
 from engine import Engine
 
+INPUTS = 200
 failed = 0
 
 
 def by_model(text):
-    return program.printed(text, sheets.Machine(program.BLOCKS).call)
+    machine = sheets.Machine(program.BLOCKS)
+    return program.printed(text, lambda *c: lists.made(machine, c))
 
 
 def by_library(engine, text):
@@ -38,11 +41,17 @@ def line(rng, machine):
     any_sheet = lambda: rng.choice([0, 1, 2, 3, 5, 31, rng.randrange(34)])
     sheet = lambda some: rng.choice(some) if some and rng.random() < 0.8 else any_sheet()
     revision = lambda: rng.choice([machine.last(), rng.randint(0, machine.last() + 1)])
-    data = lambda: bytes(rng.getrandbits(8) for _ in range(rng.choice([0, 1, 1, 2, 3, 9]))).hex() or '-'
     big = rng.choice([2 ** 32 - 1, 2 ** 32, 10 ** 12, rng.getrandbits(32)])
     who = seat if rng.random() < 0.96 else rng.choice([0, 3, 4, 12])
+
+    def typed(i):
+        """A sheet and its bytes, often those that a revision has."""
+        same = machine.tree(revision()).get(i)
+        data = rng.randbytes(rng.choice([0, 1, 1, 2, 3, 9])) if same is None or rng.random() < 0.4 else same
+        return [who, i, data.hex() or '-']
+
     kind = rng.choice(['add', 'add', 'set', 'set', 'del', 'cp', 'mv', 'put', 'put', 'up', 'up', 'get', 'get'])
-    words = {'add': lambda: [who, any_sheet(), data()], 'set': lambda: [who, sheet(held_by), data()], 'del': lambda: [who, sheet(held_by)],
+    words = {'add': lambda: typed(any_sheet()), 'set': lambda: typed(sheet(held_by)), 'del': lambda: [who, sheet(held_by)],
              'cp': lambda: [who, sheet(held_by), any_sheet()], 'mv': lambda: [who, sheet(held_by), any_sheet()],
              'put': lambda: [who, rng.choice([big, rng.randrange(100)])], 'up': lambda: [who, revision()],
              'get': lambda: [revision(), sheet(there)]}[kind]()
@@ -92,7 +101,7 @@ def expect(what, text, wanted, runs):
 def main():
     parser = argparse.ArgumentParser(description=__doc__, formatter_class=argparse.RawDescriptionHelpFormatter)
     parser.add_argument('--seed', type=int, default=1)
-    parser.add_argument('--inputs', type=int, default=200)
+    parser.add_argument('--inputs', type=int, default=INPUTS)
     parser.add_argument('program', nargs='?', metavar='PROGRAM')
     given = parser.parse_args()
     engine = Engine()
@@ -102,13 +111,15 @@ def main():
     samples = sorted((ROOT / 'vectors' / 'program').glob('*.in'))
     for path in samples:
         expect(path.name, path.read_bytes(), path.with_suffix('.out').read_bytes(), dict(model=by_model, **runs))
+    lists.seen.clear()
     for n in range(given.inputs):
         rng = random.Random(f'{given.seed} {n}')
         for make in (script, long_sheets, limits) if n % 10 == 0 else (script,):
             text = make(rng)
             expect(f'seed {given.seed}, {make.__name__} {n}', text, by_model(text), runs)
+    never = lists.tally(given.inputs >= INPUTS)
     print(f'{len(samples)} samples, {given.inputs} random inputs, {failed} wrong')
-    sys.exit(failed != 0 or not samples)
+    sys.exit(failed + never != 0 or not samples)
 
 
 if __name__ == '__main__':

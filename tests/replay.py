@@ -1,14 +1,14 @@
 #!/usr/bin/env python3
 """Scripts through the engine's C library, held to the model: every answer and every byte of the store, the copies and the answers.
 
-replay.py [--seed N] [--lists N] [--only K] [FILE..]
+replay.py [--seed N] [--lists N] [--only K]
 
 Lists of random calls by four seats, in several scripts on one desk and in one script on another. What a record has no use for holds anything, and so does what
 the answers have beyond the script. Then damaged buffers and bad scripts: the first refusal by tests/model/accept.py and nothing changed, or the model's run.
-Then every fault alone and every two of them, and the worked script of docs/LAYOUT.md. A FILE has lists made elsewhere, as tests/calls.py reads them.
+Then every fault alone and every two of them, and the worked script of docs/LAYOUT.md. What updates met of W2 is counted as in tests/calls.py.
 At the first list that fails its seed and number are printed: `--seed N --only K` runs that list alone.
 """
-import argparse, itertools, json, pathlib, random, re, sys
+import argparse, itertools, pathlib, random, re, sys
 
 sys.path.insert(0, str(pathlib.Path(__file__).resolve().parent))
 sys.path.insert(0, str(pathlib.Path(__file__).resolve().parent / 'model'))
@@ -18,6 +18,7 @@ from engine import Engine
 
 SEATS = (1, 2, 3, 4)
 ALL = 0xffffffff
+LISTS = 200
 scripts = calls = failed = 0
 
 
@@ -91,7 +92,7 @@ def random_calls(rng, model, count):
         if c[0] in ('add', 'edit') and rng.random() < 0.02:
             c = (*c[:-1], rng.randbytes(rng.randint(477, script.MOST)))
         some.append(c)
-        answers.append(model.call(*c))
+        answers.append(lists.made(model, c))
     return some, answers
 
 
@@ -100,7 +101,7 @@ def random_list(engine, rng):
     blocks = rng.choice([2, 3, 4, 8, 12, 32, 64, 65, 200, 1000, 4096])
     model, desk, whole, said = sheets.Machine(blocks), Desk.fresh(engine, blocks), b'', []
     for n in range(rng.randint(1, 8)):
-        some, answers = random_calls(rng, model, rng.choice([0, 1, 2, 20, 60]))
+        some, answers = random_calls(rng, model, rng.choice([0, 1, 2, 20, 60, 60]))
         text = b''.join(random_record(rng, c) for c in some)
         desk.replay(f'script {n}', text, answers, rng.randbytes(rng.choice([0, 1, 511, 512, 1000])))
         desk.held_to(f'script {n}', model)
@@ -260,33 +261,11 @@ def example(engine):
         fail('the worked script of docs/LAYOUT.md leaves another store')
 
 
-def from_file(engine, path):
-    """Every list as one script; a call that takes more bytes than a record holds is made by itself, between two scripts."""
-    for number, line in enumerate(open(path)):
-        blocks, cs, answers, used, history, seats = lists.from_json(json.loads(line))
-        desk, what = Desk.fresh(engine, blocks), f'{path}, list {number}'
-        short = lambda pair: pair[0][0] not in ('add', 'edit') or len(pair[0][-1]) <= script.MOST
-        for encodable, pairs in itertools.groupby(zip(cs, answers), short):
-            some, said = zip(*pairs)
-            if encodable:
-                desk.replay(what, b''.join(script.call_record(*c) for c in some), said, b'rest')
-                continue
-            for c, a in zip(some, said):
-                copy = desk.copies[(c[1] - 1) * layout.COPY_LEN:c[1] * layout.COPY_LEN]
-                if engine.call(c[0], desk.store, copy, *c[2:]) != a or a[0] != 'no':
-                    fail(f'{what}: {c} is not {a}')
-        end, left = layout.history_of(bytes(desk.store)), {k: layout.entries_of(c) for k, c in cut(desk.copies).items()}
-        written = lambda *end: lists.theorems(blocks, cs, answers, *end)
-        if written(end[1], end[0], left) != written(used, history, seats):
-            fail(f'{what}: another end')
-
-
 def main():
     parser = argparse.ArgumentParser(description=__doc__, formatter_class=argparse.RawDescriptionHelpFormatter)
     parser.add_argument('--seed', type=int, default=1)
-    parser.add_argument('--lists', type=int, default=200)
+    parser.add_argument('--lists', type=int, default=LISTS)
     parser.add_argument('--only', type=int, metavar='K')
-    parser.add_argument('files', nargs='*', metavar='FILE')
     given = parser.parse_args()
     engine = Engine()
     for n in range(given.lists) if given.only is None else [given.only]:
@@ -298,10 +277,9 @@ def main():
     filling(engine)
     every_fault(engine)
     example(engine)
-    for path in given.files:
-        from_file(engine, path)
+    never = lists.tally(given.only is None and given.lists >= LISTS and not failed)
     print(f'{scripts} scripts, {calls} calls done, {failed} wrong')
-    sys.exit(failed != 0)
+    sys.exit(failed + never != 0)
 
 
 if __name__ == '__main__':

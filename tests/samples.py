@@ -1,0 +1,216 @@
+#!/usr/bin/env python3
+"""Lists and calls with known answers, on the engine's C library and on tests/model: samples that were made elsewhere, and lists written by hand from W2.
+
+samples.py FILE..
+
+A file of lists (its name ends in `lists.jsonl`): each list call by call and as a script; every answer, and at the end the used blocks, the history, the entries
+and the sha256 of every buffer. A file of cases (`cases.jsonl`): each call on the buffers that it is handed, good or damaged; its answer and every byte after it.
+tests/vectors/README.md describes both. The lists written by hand are run with any FILE, or with none.
+"""
+import hashlib, itertools, json, pathlib, sys
+
+sys.path.insert(0, str(pathlib.Path(__file__).resolve().parent))
+sys.path.insert(0, str(pathlib.Path(__file__).resolve().parent / 'model'))
+import calls, layout, lists, replay, script
+from calls import ALL, fail
+from engine import Engine
+
+
+def read(path):
+    """The lists or cases of a file, which has some."""
+    found = [json.loads(line) for line in open(path)]
+    if not found:
+        fail(f'{path} has nothing')
+    print(f'{path}: {len(found)}')
+    return found
+
+
+# ---- lists
+
+def by_calls(engine, what, blocks, some, answers):
+    """Call by call, on the engine beside the model. Both are then at the end."""
+    desk, before = calls.Desk.fresh(engine, blocks), calls.failed
+    for c, wanted in zip(some, answers, strict=True):
+        said = desk.call(*c)
+        if said != wanted:
+            fail(f'the model at {c}: {said}, not {wanted}')
+    desk.whole()
+    if calls.failed > before:
+        print(f'failed in {what}')
+    return desk
+
+
+def by_script(engine, what, blocks, some, answers):
+    """As one script; a call that takes more bytes than a record holds is made by itself, between two scripts."""
+    desk = replay.Desk.fresh(engine, blocks)
+    short = lambda pair: pair[0][0] not in ('add', 'edit') or len(pair[0][-1]) <= script.MOST
+    for encodable, pairs in itertools.groupby(zip(some, answers), short):
+        part, said = zip(*pairs)
+        if encodable:
+            desk.replay(what, b''.join(script.call_record(*c) for c in part), said, b'rest')
+            continue
+        for c, a in zip(part, said):
+            if engine.call(c[0], desk.store, replay.cut(desk.copies)[c[1]], *c[2:]) != a or a[0] != 'no':
+                fail(f'{what}: {c} is not {a}')
+    return desk
+
+
+def ends(what, end, wanted, store, copies):
+    """What the buffers hold at the end of a list."""
+    history, used = layout.history_of(store)
+    if (used, history, {k: layout.entries_of(c) for k, c in copies.items()}) != wanted:
+        fail(f'{what}: another end')
+    digest = lambda buffer: hashlib.sha256(buffer).hexdigest()
+    if {'store': digest(store), 'copies': [digest(c) for c in copies.values()]} != end['sha256']:
+        fail(f'{what}: other bytes at the end')
+
+
+def from_lists(engine, path):
+    for number, l in enumerate(read(path)):
+        what = f'{path}, list {number}'
+        blocks, some, answers, *wanted = lists.from_json(l)
+        desk, scripted = (run(engine, what, blocks, some, answers) for run in (by_calls, by_script))
+        model = desk.model
+        if [model.used, model.history, model.seats] != wanted:
+            fail(f'{what}: another end of the model')
+        ends(what, l['end'], tuple(wanted), desk.store, desk.copies)
+        ends(f'{what} as a script', l['end'], tuple(wanted), scripted.store, replay.cut(scripted.copies))
+
+
+# ---- cases
+
+def lent(buffer):
+    """A buffer of a case. Where the call takes none it is empty."""
+    out = bytearray(buffer['len'] if buffer else 0)
+    for at, data in buffer['runs'] if buffer else ():
+        out[at:at + len(data) // 2] = bytes.fromhex(data)
+    return out
+
+
+def answered(engine, what, name, args, store, copy):
+    """The engine's answer in the words of a case. The model is held to the engine but where it has no such call, at create."""
+    if name == 'create_store':
+        return engine.create_store(store)
+    if name == 'create_copy':
+        return engine.create_copy(copy, *args)
+    answer = calls.on_buffers(engine, what, name, args, store, copy)
+    if name in ('read', 'show'):
+        return engine.part(name, store, copy, *args)
+    if answer[0] == 'log':
+        action, source = answer[4] or (0, None)
+        return (*answer[:4], action, *(source or (0, 0)))
+    return answer
+
+
+def from_cases(engine, path):
+    for number, case in enumerate(read(path)):
+        what = f'{path}, case {number} ({case["note"]}), {case["call"]}'
+        store, copy = lent(case['store']), lent(case['copy'])
+        after = [lent(case[f'{name}_after'] or case[name]) for name in ('store', 'copy')]
+        args = [bytes.fromhex(a) if isinstance(a, str) else a for a in case['args']]
+        got = answered(engine, what, case['call'], args, store, copy)
+        if list(got) != case['answer']:
+            fail(f'{what}: {got}, not {case["answer"]}')
+        if [store, copy] != after:
+            fail(f'{what} leaves other buffers')
+
+
+# ---- W2 by hand
+
+START = [(('add', 1, 4, b'A'), 'done'), (('add', 1, 5, b'A'), 'done'), (('add', 1, 6, b'A'), 'done'), (('commit', 1, 7, ALL), 'revision 1'),
+         (('update', 2, ALL, 1), 'done')]
+BY_HAND = {
+    'the same edit': START + [
+        (('edit', 1, 5, b'B'), 'done'), (('edit', 2, 5, b'B'), 'done'), (('status', 2, 5), 'status 2'), (('commit', 1, 8, ALL), 'revision 2'),
+        (('status', 2, 5), 'status 4'), (('commit', 2, 9, ALL), 'no 11'), (('status', 2, 5), 'status 4'),
+        (('update', 2, ALL, 2), 'done'), (('status', 2, 5), 'status 1'), (('commit', 2, 9, ALL), 'no 10'), (('show', 2, 5), ('bytes', b'B'))],
+    'the same bytes added': [
+        (('add', 1, 5, b'AB'), 'done'), (('add', 2, 5, b'AB'), 'done'), (('status', 2, 5), 'status 5'), (('commit', 1, 7, ALL), 'revision 1'),
+        (('status', 2, 5), 'status 5'), (('commit', 2, 8, ALL), 'no 11'),
+        (('update', 2, ALL, 1), 'done'), (('status', 2, 5), 'status 1'), (('commit', 2, 8, ALL), 'no 10'),
+        (('edit', 2, 5, b'C'), 'done'), (('commit', 2, 8, ALL), 'revision 2'), (('log', 1, 2, 5), ('log', 2, 8, 1, (2, None)))],
+    'copies of the same bytes, one of them edited': START + [
+        (('copy', 2, 5, 8), 'done'), (('copy', 2, 5, 9), 'done'), (('edit', 2, 9, b'C'), 'done'),
+        (('add', 1, 8, b'A'), 'done'), (('add', 1, 9, b'C'), 'done'), (('commit', 1, 8, ALL), 'revision 2'),
+        (('status', 2, 8), 'status 7'), (('status', 2, 9), 'status 7'), (('commit', 2, 9, ALL), 'no 11'),
+        (('update', 2, ALL, 2), 'done'), (('status', 2, 8), 'status 1'), (('status', 2, 9), 'status 1'), (('commit', 2, 9, ALL), 'no 10'),
+        (('edit', 2, 8, b'D'), 'done'), (('commit', 2, 9, ALL), 'revision 3'), (('log', 1, 3, 8), ('log', 2, 9, 1, (2, None)))],
+    'copies by both, from other sheets': START + [
+        (('copy', 1, 6, 8), 'done'), (('copy', 2, 5, 8), 'done'), (('commit', 1, 8, ALL), 'revision 2'), (('log', 1, 2, 8), ('log', 1, 8, 1, (4, (6, 1)))),
+        (('update', 2, ALL, 2), 'done'), (('status', 2, 8), 'status 1'), (('delete', 2, 8), 'done'), (('status', 2, 8), 'status 6')],
+    'an older tree': START + [
+        (('edit', 1, 5, b'B'), 'done'), (('commit', 1, 8, ALL), 'revision 2'), (('edit', 1, 5, b'C'), 'done'), (('commit', 1, 9, ALL), 'revision 3'),
+        (('edit', 2, 5, b'B'), 'done'), (('update', 2, ALL, 3), 'no 12'), (('update', 2, ALL, 2), 'done'), (('status', 2, 5), 'status 3'),
+        (('show', 2, 5), ('bytes', b'B')), (('commit', 2, 10, ALL), 'no 10'),
+        (('update', 3, ALL, 1), 'done'), (('edit', 3, 5, b'C'), 'done'), (('update', 3, ALL, 2), 'no 12'), (('status', 3, 5), 'status 4'),
+        (('update', 3, ALL, 3), 'done'), (('status', 3, 5), 'status 1'), (('edit', 3, 5, b'A'), 'done'), (('update', 3, ALL, 2), 'no 12'),
+        (('update', 3, ALL, 1), 'done'), (('status', 3, 5), 'status 3'), (('show', 3, 5), ('bytes', b'A')),
+        (('add', 4, 5, b'B'), 'done'), (('update', 4, ALL, 3), 'no 12'), (('update', 4, ALL, 1), 'no 12'), (('status', 4, 5), 'status 5'),
+        (('update', 4, ALL, 2), 'done'), (('status', 4, 5), 'status 3')],
+    'deleted by both': START + [
+        (('delete', 1, 5), 'done'), (('delete', 2, 5), 'done'), (('commit', 1, 8, ALL), 'revision 2'), (('status', 2, 5), 'status 6'),
+        (('commit', 2, 9, ALL), 'no 11'), (('update', 2, ALL, 2), 'no 12'), (('status', 2, 5), 'status 6'),
+        (('delete', 2, 6), 'done'), (('edit', 1, 6, b''), 'done'), (('commit', 1, 9, ALL), 'revision 3'), (('update', 2, 1 << 6, 3), 'no 12'),
+        (('revert', 2, ALL), 'done'), (('update', 2, ALL, 3), 'done'), (('status', 2, 5), 'status 0'), (('status', 2, 6), 'status 1')],
+    'empty sheets': [
+        (('add', 1, 5, b''), 'done'), (('add', 2, 5, b''), 'done'), (('add', 3, 5, b'\0'), 'done'), (('commit', 1, 7, ALL), 'revision 1'),
+        (('update', 2, ALL, 1), 'done'), (('status', 2, 5), 'status 1'), (('show', 2, 5), ('bytes', b'')), (('update', 3, ALL, 1), 'no 12'),
+        (('edit', 3, 5, b''), 'done'), (('update', 3, ALL, 1), 'done'), (('status', 3, 5), 'status 1'),
+        (('edit', 1, 5, b'A'), 'done'), (('commit', 1, 8, ALL), 'revision 2'), (('update', 2, ALL, 2), 'done'),
+        (('edit', 1, 5, b''), 'done'), (('commit', 1, 9, ALL), 'revision 3'), (('edit', 2, 5, b''), 'done'), (('status', 2, 5), 'status 4'),
+        (('update', 2, ALL, 3), 'done'), (('status', 2, 5), 'status 1')],
+    'empty bytes beside an absent sheet': START + [
+        (('add', 2, 8, b''), 'done'), (('update', 2, 1 << 8, 1), 'done'), (('status', 2, 8), 'status 5'),
+        (('update', 2, 1 << 8, 0), 'done'), (('status', 2, 8), 'status 5'),
+        (('copy', 2, 6, 9), 'done'), (('edit', 2, 9, b''), 'done'), (('update', 2, 1 << 9, 1), 'done'), (('status', 2, 9), 'status 7'),
+        (('commit', 2, 8, 1 << 8 | 1 << 9), 'revision 2'), (('log', 1, 2, 8), ('log', 2, 8, 2, (1, None))), (('log', 1, 2, 9), ('log', 2, 8, 2, (4, (6, 1)))),
+        (('delete', 1, 5), 'done'), (('commit', 1, 9, ALL), 'revision 3'), (('edit', 2, 5, b''), 'done'), (('status', 2, 5), 'status 4'),
+        (('update', 2, 1 << 5, 3), 'no 12'), (('update', 2, 1 << 5, 0), 'no 12')],
+    'beside a conflict': START + [
+        (('edit', 1, 4, b'B'), 'done'), (('edit', 1, 5, b'B'), 'done'), (('edit', 1, 6, b'B'), 'done'), (('commit', 1, 8, ALL), 'revision 2'),
+        (('edit', 2, 4, b'C'), 'done'), (('edit', 2, 5, b'B'), 'done'), (('edit', 2, 6, b'C'), 'done'),
+        (('update', 2, ALL, 2), 'no 12'), (('update', 2, 1 << 4 | 1 << 5, 2), 'no 12'), (('update', 2, 1 << 5 | 1 << 6, 2), 'no 12'),
+        (('status', 2, 5), 'status 4'), (('update', 2, 1 << 5, 2), 'done'), (('status', 2, 5), 'status 1'), (('status', 2, 4), 'status 4'),
+        (('edit', 2, 4, b'B'), 'done'), (('update', 2, 1 << 5, 2), 'done'), (('status', 2, 4), 'status 4'),
+        (('update', 2, 1 << 4 | 1 << 5, 2), 'done'), (('status', 2, 4), 'status 1'), (('status', 2, 6), 'status 4')],
+    'all kinds at once': START + [
+        (('edit', 1, 5, b'B'), 'done'), (('add', 1, 8, b'C'), 'done'), (('add', 1, 9, b'A'), 'done'), (('commit', 1, 8, ALL), 'revision 2'),
+        (('edit', 2, 5, b'B'), 'done'), (('add', 2, 8, b'C'), 'done'), (('copy', 2, 6, 9), 'done'), (('add', 2, 10, b'D'), 'done'), (('edit', 2, 4, b'E'), 'done'),
+        (('update', 2, ALL, 2), 'done'), (('status', 2, 5), 'status 1'), (('status', 2, 8), 'status 1'), (('status', 2, 9), 'status 1'),
+        (('status', 2, 10), 'status 5'), (('status', 2, 4), 'status 2'), (('commit', 2, 9, ALL ^ (1 << 4 | 1 << 10)), 'no 10'),
+        (('commit', 2, 9, ALL), 'revision 3'), (('log', 1, 3, 4), ('log', 2, 9, 2, (2, None)))],
+    'other bytes': START + [
+        (('edit', 1, 5, b'AB'), 'done'), (('commit', 1, 8, ALL), 'revision 2'),
+        *((c, said) for data in (b'AC', b'BB', b'B', b'ABC', b'AB\0', b'') for c, said in ((('edit', 2, 5, data), 'done'), (('update', 2, ALL, 2), 'no 12'))),
+        (('edit', 2, 5, b'AB'), 'done'), (('update', 2, ALL, 2), 'done'),
+        (('edit', 1, 5, b'x' * 480), 'done'), (('commit', 1, 9, ALL), 'revision 3'),
+        (('edit', 2, 5, b'x' * 479), 'done'), (('update', 2, ALL, 3), 'no 12'), (('edit', 2, 5, b'x' * 479 + b'y'), 'done'), (('update', 2, ALL, 3), 'no 12'),
+        (('edit', 2, 5, b'y' + b'x' * 479), 'done'), (('update', 2, ALL, 3), 'no 12'), (('edit', 2, 5, b'x' * 480), 'done'), (('update', 2, ALL, 3), 'done')],
+}
+
+
+def in_words(text):
+    """`no 12`, as the model answers it."""
+    word, *numbers = text.split()
+    return (word, *map(int, numbers))
+
+
+def from_hand(engine):
+    for what, rows in BY_HAND.items():
+        some, answers = zip(*((c, in_words(said) if isinstance(said, str) else said) for c, said in rows))
+        desk = by_calls(engine, what, 32, some, answers)
+        by_script(engine, what, 32, some, answers).held_to(f'{what} as a script', desk.model)
+
+
+def main():
+    engine = Engine()
+    from_hand(engine)
+    for path in sys.argv[1:]:
+        (from_cases if path.endswith('cases.jsonl') else from_lists)(engine, path)
+    wrong = calls.failed + replay.failed
+    print(f'{calls.calls} calls, {replay.scripts} scripts, {wrong} wrong')
+    sys.exit(wrong != 0)
+
+
+if __name__ == '__main__':
+    main()
