@@ -81,7 +81,7 @@ normalStatus later modified = cond later (cond modified 4 3) (cond modified 2 1)
 abbrev pub takenAs : ℕ → Update
 takenAs p = cond (eqb p 0) Clear (Take p)
 
--- whether its bytes are those of tree R, which block p holds
+-- t says whether the entry's bytes are tree R's, which block p holds
 abbrev pub agreedAs : Bool → ℕ → Update
 agreedAs t p = cond t (Take p) Conflict
 

@@ -75,17 +75,17 @@ read-after N ts seat R i =
     ∙ read-side (noSheet i || tooLate (accepted (fresh N) ts) R) (sideOf (run (fresh N) ts) seat) R i (sheet (accepted (fresh N) ts) R i)
     (ap (λ (h : History). sheet h R i) (found N ts)) (ap (λ (h : History). noSheet i || tooLate h R) (found N ts))
 
--- ---- update, by a seat with nothing pending: each chosen sheet comes to tree R's bytes, or is absent
+-- ---- update
 
--- entry i of 32 after an update
+-- entry i after it
 pub updated-at : (h : History) (mask R : ℕ) (es : List Entry) (i : ℕ) → i < length es
     → getD (updated h mask R es) i empty ≡ cond (chosen mask i) (orElse (updatedTo h R i (getD es i empty)) (getD es i empty)) (getD es i empty)
 updated-at h mask R es i l = rows-at (λ i e. cond (chosen mask i) (orElse (updatedTo h R i e) e) e) empty empty es i l
 
+-- by a seat with nothing pending: each chosen sheet comes to tree R's bytes, or is absent
 pub up-to-date : (h : History) (mask R : ℕ) (es : List Entry) (i : ℕ) → chosen mask i ≡ true → i < length es → pending h i (getD es i empty) ≡ false
     → getD (updated h mask R es) i empty ≡ asIn R (sheet h R i)
-up-to-date h mask R es i z l p =
-    updated-at h mask R es i l ∙ rw z (brought (getD es i empty) p)
+up-to-date h mask R es i z l p = updated-at h mask R es i l ∙ rw z (brought (getD es i empty) p)
   where
     brought : (e : Entry) → pending h i e ≡ false → orElse (updatedTo h R i e) e ≡ asIn R (sheet h R i)
     brought empty p = refl
