@@ -8,7 +8,7 @@ buffers changed, resealed or not, blocks exchanged, lengths wrong; the first ref
 where the buffers are accepted all the same, the call must do as the model does. How often updates met what W2 of document 02 is about is printed, and that some
 of it never came is a failure. At the first list that fails its seed and number are printed: `--seed N --only K` runs that list alone.
 """
-import argparse, pathlib, random, sys
+import pathlib, random, sys
 
 sys.path.insert(0, str(pathlib.Path(__file__).resolve().parent))
 sys.path.insert(0, str(pathlib.Path(__file__).resolve().parent / 'model'))
@@ -18,7 +18,6 @@ from engine import Engine
 CHANGING = ('add', 'edit', 'delete', 'copy', 'move', 'commit', 'update', 'revert')
 STORE_ONLY = ('read', 'log')
 ALL = 0xffffffff
-LISTS = 60
 calls = failed = 0
 
 
@@ -208,19 +207,15 @@ def accepted(what, name, args, got, before, store, copy):
 
 
 def main():
-    parser = argparse.ArgumentParser(description=__doc__, formatter_class=argparse.RawDescriptionHelpFormatter)
-    parser.add_argument('--seed', type=int, default=1)
-    parser.add_argument('--lists', type=int, default=LISTS)
-    parser.add_argument('--only', type=int, metavar='K')
-    given = parser.parse_args()
+    given = lists.options(__doc__, 60)
     engine = Engine()
-    for n in range(given.lists) if given.only is None else [given.only]:
+    for n in given.numbers:
         rng = random.Random(f'{given.seed} {n}')
         damaged(engine, rng, random_list(engine, rng, n))
         if failed:
             print(f'failed in this list: tests/calls.py --seed {given.seed} --only {n}')
             break
-    never = lists.tally(given.only is None and given.lists >= LISTS and not failed)
+    never = lists.tally(given.enough and not failed)
     print(f'{calls} calls, {failed} wrong')
     sys.exit(failed + never != 0)
 

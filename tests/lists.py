@@ -7,7 +7,7 @@ lists.py --random N [SEED]   a list of N random calls by four seats, with the an
 For each list two theorems by `refl` are written to target/lists: the machine's answers are those of the list, and its
 state at the end is the list's. Then the prover checks them.
 """
-import collections, json, os, pathlib, random, subprocess, sys
+import argparse, collections, json, os, pathlib, random, subprocess, sys
 
 ROOT = pathlib.Path(__file__).resolve().parent.parent
 sys.path.insert(0, str(ROOT / 'tests' / 'model'))
@@ -152,6 +152,18 @@ def tally(enough):
     for what in never:
         print(f'none came: {what}')
     return len(never)
+
+
+def options(doc, count):
+    """The options of a test of random lists: the numbers of the lists to run, and whether they are at least as many as its own count."""
+    parser = argparse.ArgumentParser(description=doc, formatter_class=argparse.RawDescriptionHelpFormatter)
+    parser.add_argument('--seed', type=int, default=1)
+    parser.add_argument('--lists', type=int, default=count)
+    parser.add_argument('--only', type=int, metavar='K')
+    given = parser.parse_args()
+    given.numbers = range(given.lists) if given.only is None else [given.only]
+    given.enough = given.only is None and given.lists >= count
+    return given
 
 
 def random_call(rng, m):

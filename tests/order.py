@@ -8,7 +8,7 @@ equal; and one that makes another history, which must leave other bytes. Then a 
 and read as the model does; more calls on it, which must leave the blocks that are there and lay out theirs in W1's order; and damage, as tests/calls.py and
 tests/replay.py do it. Then stores laid out by hand. At the first list that fails its seed and number are printed: `--seed N --only K` runs that list alone.
 """
-import argparse, collections, pathlib, random, sys
+import collections, pathlib, random, sys
 
 sys.path.insert(0, str(pathlib.Path(__file__).resolve().parent))
 sys.path.insert(0, str(pathlib.Path(__file__).resolve().parent / 'model'))
@@ -17,7 +17,6 @@ from calls import fail
 from engine import Engine
 from sheets import ADD, CHANGE, COPY, DELETE
 
-LISTS = 60
 LOOKS = ('read', 'show', 'status', 'log')
 WAYS = ('last commit', 'stamp', 'seat', 'byte', 'length', 'source', 'action')
 SHARED = ('copies that share a block', 'of them between two content blocks', 'in a block that W1 numbers otherwise', 'past block 255')
@@ -405,14 +404,10 @@ def by_hand(engine):
 
 
 def main():
-    parser = argparse.ArgumentParser(description=__doc__, formatter_class=argparse.RawDescriptionHelpFormatter)
-    parser.add_argument('--seed', type=int, default=1)
-    parser.add_argument('--lists', type=int, default=LISTS)
-    parser.add_argument('--only', type=int, metavar='K')
-    given = parser.parse_args()
+    given = lists.options(__doc__, 60)
     engine = Engine()
     wrong = lambda: calls.failed + replay.failed
-    for n in range(given.lists) if given.only is None else [given.only]:
+    for n in given.numbers:
         rng = random.Random(f'{given.seed} {n}')
         pair(engine, rng)
         other_order(engine, rng, n)
@@ -420,7 +415,7 @@ def main():
             print(f'failed in this list: tests/order.py --seed {given.seed} --only {n}')
             break
     by_hand(engine)
-    if given.only is None and given.lists >= LISTS and not wrong():
+    if given.enough and not wrong():
         for what in SHARED + BETWEEN:
             if not seen[what]:
                 fail(f'the lists have none of: {what}')

@@ -8,7 +8,7 @@ the answers have beyond the script. Then damaged buffers and bad scripts: the fi
 Then every fault alone and every two of them, and the worked script of docs/LAYOUT.md. What updates met of W2 is counted as in tests/calls.py.
 At the first list that fails its seed and number are printed: `--seed N --only K` runs that list alone.
 """
-import argparse, itertools, pathlib, random, re, sys
+import itertools, pathlib, random, re, sys
 
 sys.path.insert(0, str(pathlib.Path(__file__).resolve().parent))
 sys.path.insert(0, str(pathlib.Path(__file__).resolve().parent / 'model'))
@@ -18,7 +18,6 @@ from engine import Engine
 
 SEATS = (1, 2, 3, 4)
 ALL = 0xffffffff
-LISTS = 200
 scripts = calls = failed = 0
 
 
@@ -262,13 +261,9 @@ def example(engine):
 
 
 def main():
-    parser = argparse.ArgumentParser(description=__doc__, formatter_class=argparse.RawDescriptionHelpFormatter)
-    parser.add_argument('--seed', type=int, default=1)
-    parser.add_argument('--lists', type=int, default=LISTS)
-    parser.add_argument('--only', type=int, metavar='K')
-    given = parser.parse_args()
+    given = lists.options(__doc__, 200)
     engine = Engine()
-    for n in range(given.lists) if given.only is None else [given.only]:
+    for n in given.numbers:
         rng = random.Random(f'{given.seed} {n}')
         damaged(engine, rng, *random_list(engine, rng))
         if failed:
@@ -277,7 +272,7 @@ def main():
     filling(engine)
     every_fault(engine)
     example(engine)
-    never = lists.tally(given.only is None and given.lists >= LISTS and not failed)
+    never = lists.tally(given.enough and not failed)
     print(f'{scripts} scripts, {calls} calls done, {failed} wrong')
     sys.exit(failed + never != 0)
 
