@@ -18,7 +18,8 @@ use Rattle.model.specs.Store.{storeHistory}
 use Rattle.commits.specs.Outcome.{RightAt, RightFlags}
 use Rattle.entries.specs.View.{entryIn}
 use Rattle.filing.specs.Inner.{altered, sourceBlock}
-use Rattle.masks.proofs.Bits.{Lowest, chosen-none, chosen-other, cleared-lt}
+use Rattle.laws.proofs.Rows.{chosen-none}
+use Rattle.masks.proofs.Bits.{Lowest, chosen-other, cleared-lt}
 use mir.Val.{boolByte}
 
 -- a test as a byte

@@ -1,13 +1,14 @@
--- Laws on Bools, and on rows: of `cond`, `rows`, `some-row`, `set`.
+-- Laws on Bools, and on rows: of `cond`, `rows`, `some-row`, `set`; and which rows a mask of zero chooses.
 -- Assumes nothing.
-use Prim.Native.Nat.{_+_, _<_, suc, zero, ℕ}
-use mathlib.Core.Bool.{Bool, _&&_, _||_, cond, false, not, true}
+use Prim.Native.Nat.{_%_, _+_, _<_, _^_, suc, zero, ℕ}
+use mathlib.Core.Bool.{Bool, _&&_, _||_, cond, false, not, or-true, true}
 use mathlib.Core.List.{List, [], _∷_}
 use mathlib.Core.Path.{_≡_, ap, ap₂, refl, sym}
-use native.Mathlib.Nat.{add-suc, add-zero, suc-add, zero-add}
+use native.Mathlib.Nat.{add-suc, add-zero, suc-add, zero-add, zero-div}
 use native.Mathlib.Omega.{arith}
-use lib.Dec.{T}
+use lib.Dec.{T, eqb}
 use lib.ListN.{getD, length, replicate, set}
+use Rattle.model.specs.Machine.{chosen}
 use Rattle.model.specs.Rows.{rows, some-row}
 
 module _ {A : Type 0} where
@@ -30,6 +31,9 @@ and-false false b e t = cc
 pub and-nothing : (a : Bool) → (a && false) ≡ false
 and-nothing true = refl
 and-nothing false = refl
+
+pub chosen-none : (i : ℕ) → chosen 0 i ≡ false
+chosen-none i = ap (λ (b : ℕ). eqb (b % 2) 1) (zero-div (2 ^ i))
 
 pub is-T : (b : Bool) → not b ≡ false → T b
 is-T true e = tt
@@ -101,10 +105,6 @@ module _ {A : Type 0} (f : ℕ → A → Bool) (d : A) where
   some-row-from k [] i h e = absurd (omega arith)
   some-row-from k (a ∷ l) zero h e = rw (rw add-zero at e)
   some-row-from k (a ∷ l) (suc i) h e = rw (some-row-from (suc k) l i (omega arith) (rw (add-suc, ← suc-add) at e)) (or-true (f k a))
-    where
-      or-true : (b : Bool) → (b || true) ≡ true
-      or-true true = refl
-      or-true false = refl
 
   pub some-row-at : (l : List A) (i : ℕ) → i < length l → f i (getD l i d) ≡ true → some-row f 0 l ≡ true
   some-row-at l i h e = some-row-from 0 l i h (rw zero-add e)

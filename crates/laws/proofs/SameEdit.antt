@@ -1,12 +1,12 @@
 -- W2: an entry whose bytes are tree R's is no conflict and becomes normal with base R; every other is as it was before W2.
 -- Assumes nothing.
-use Prim.Native.Nat.{_%_, _<_, _^_, _≤_, ℕ}
+use Prim.Native.Nat.{_<_, _≤_, ℕ}
 use mathlib.Core.Bool.{Bool, _&&_, _||_, cond, false, not, true}
 use mathlib.Core.List.{List, _++_}
 use mathlib.Core.Logic.{_⊎_, inl, inr}
 use mathlib.Core.Option.{Option, none, some}
 use mathlib.Core.Path.{_∙_, _≡_, ap, ap₂, refl, subst, sym}
-use native.Mathlib.Nat.{zero-add, zero-div}
+use native.Mathlib.Nat.{zero-add}
 use native.Mathlib.Omega.{arith}
 use borrow.Author.Tests.{eqb-true, le-ltb, ltb-false, ne-eqb}
 use lib.Dec.{eqb, ltb}
@@ -28,7 +28,7 @@ use Rattle.laws.proofs.Answers.{up-to-date, updated-at}
 use Rattle.laws.proofs.Conditions.{clear, clear-first}
 use Rattle.laws.proofs.Demand1.{refused-leaves}
 use Rattle.laws.proofs.Demand3.{no-conflict}
-use Rattle.laws.proofs.Rows.{cond-same, no-rows, row-some, some-row-at}
+use Rattle.laws.proofs.Rows.{chosen-none, cond-same, no-rows, row-some, some-row-at}
 use Rattle.laws.proofs.Trees.{has-bytes, same-namer, unnamed}
 use Rattle.laws.proofs.WorkCopy.{holds-copy}
 
@@ -122,7 +122,7 @@ is-stale h i (copied s′ r x) s f z = ap present (has-bytes x (newest h i) z)
 -- a mask that chooses a sheet isn't zero
 picks : (mask i : ℕ) → chosen mask i ≡ true → mask ≡ 0 → ⊥
 picks mask i c z =
-    let n : chosen mask i ≡ false = ap (λ (m : ℕ). chosen m i) z ∙ ap (λ (b : ℕ). eqb (b % 2) 1) (zero-div (2 ^ i)) in
+    let n : chosen mask i ≡ false = ap (λ (m : ℕ). chosen m i) z ∙ chosen-none i in
     let w : _≡_ {A = ℕ} 0 1 = cc (c, n) in
     omega arith
 

@@ -4,7 +4,7 @@ use Prim.Native.Nat.{_%_, _*_, _+_, _-_, _/_, _<_, _^_, _≤_, suc, suc-le-suc, 
 use mathlib.Core.Bool.{false, true}
 use mathlib.Core.Logic.{⊎-elim}
 use mathlib.Core.Path.{_∙_, _≡_, ap, ap₂, refl, subst, sym}
-use native.Mathlib.Nat.{add-comm, add-mul, add-zero, mod-eq-of-lt, mod-lt, mod-one, mod-self, mul-assoc, mul-left-comm, one-mul, pow-succ', zero-div, zero-lt-suc}
+use native.Mathlib.Nat.{add-comm, add-mul, add-zero, mod-eq-of-lt, mod-lt, mod-one, mod-self, mul-assoc, mul-left-comm, one-mul, pow-succ', zero-lt-suc}
 use native.Mathlib.Numerals.{add-one, one-add}
 use native.Mathlib.Omega.{arith}
 use lib.Arith.{lt-of-le-ne}
@@ -29,9 +29,6 @@ bit-under a e i =
 
 bit-low : (a k i : ℕ) → i < k → bit (a * 2 ^ k) i ≡ 0
 bit-low a k i h = let e : k ≡ suc (k - suc i) + i = omega arith in ap (λ (x : ℕ). bit (a * 2 ^ x) i) e ∙ bit-under a (k - suc i) i
-
-bit-zero : (i : ℕ) → bit 0 i ≡ 0
-bit-zero i = ap (λ (x : ℕ). x % 2) (zero-div (2 ^ i))
 
 -- ---- the lowest set bit t of n: n is odd above t, and 0 below
 pub record Lowest (n t : ℕ) : Type 0 where
@@ -126,9 +123,6 @@ module _ {n t : ℕ} (L : Lowest n t) where
 
   pub chosen-other : (i : ℕ) → (i ≡ t → ⊥) → chosen (n - 2 ^ t) i ≡ chosen n i
   chosen-other i ne = ap (λ (b : ℕ). eqb b 1) (bit-other i ne)
-
-pub chosen-none : (i : ℕ) → chosen 0 i ≡ false
-chosen-none i = ap (λ (b : ℕ). eqb b 1) (bit-zero i)
 
 -- ---- the count of the set bits
 bit-ones : (b : ℕ) → b < 2 → ones b ≡ b

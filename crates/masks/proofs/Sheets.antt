@@ -10,7 +10,8 @@ use native.Mathlib.Omega.{arith}
 use lib.Dec.{eqb}
 use lib.ListN.{length}
 use Rattle.model.specs.Machine.{chosen}
-use Rattle.masks.proofs.Bits.{Lowest, chosen-below, chosen-cleared, chosen-lowest, chosen-none, chosen-other, lowest}
+use Rattle.laws.proofs.Rows.{chosen-none}
+use Rattle.masks.proofs.Bits.{Lowest, chosen-below, chosen-cleared, chosen-lowest, chosen-other, lowest}
 use Rattle.masks.specs.Mask.{bit, countTo, sheetsFrom}
 
 -- two masks that choose alike from i on have the same sheets there

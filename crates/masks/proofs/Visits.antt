@@ -2,16 +2,16 @@
 -- Of a loop that changes the row of each chosen sheet, and of one that looks for a row.
 -- Assumes nothing.
 use Prim.Native.Nat.{_+_, _-_, _<_, _^_, _≤_, suc, zero, ℕ}
-use mathlib.Core.Bool.{Bool, _&&_, _||_, cond, false, or-true, true}
+use mathlib.Core.Bool.{Bool, _&&_, _||_, cond, false, true}
 use mathlib.Core.List.{List, [], _∷_}
-use mathlib.Core.Path.{_∙_, _≡_, ap, ap₂, refl, sym}
+use mathlib.Core.Path.{_≡_, ap, ap₂, refl, sym}
 use native.Mathlib.Nat.{zero-add}
 use native.Mathlib.Omega.{arith}
 use lib.ListN.{getD, length, set}
 use Rattle.model.specs.Machine.{chosen}
 use Rattle.model.specs.Rows.{rows, some-row}
-use Rattle.laws.proofs.Rows.{and-nothing}
-use Rattle.masks.proofs.Bits.{Lowest, chosen-cleared, chosen-lowest, chosen-none, chosen-other}
+use Rattle.laws.proofs.Rows.{and-nothing, chosen-none, some-row-at}
+use Rattle.masks.proofs.Bits.{Lowest, chosen-cleared, chosen-lowest, chosen-other}
 use Rattle.masks.specs.Mask.{atChosen}
 
 -- ---- f done at each chosen sheet: `rows (atChosen f m) 0 es` stays the same, from the first mask and the first rows to no mask and the last rows
@@ -64,12 +64,6 @@ module _ {A : Type 0} (p : ℕ → A → Bool) where
   any-one b c d (x ∷ es) k (suc t) s e off q others h =
       ap₂ (λ (y w : Bool). (y && p k x) || w) (others k (λ r. omega arith)) (any-one b c d es (suc k) t s (omega arith) off q others (omega arith))
 
-  any-found : (c : ℕ → Bool) (d : A) (es : List A) (k t s : ℕ) → s ≡ k + t → c s ≡ true → p s (getD es t d) ≡ true → t < length es → some-row (λ i e. c i && p i e) k es ≡ true
-  any-found c d [] k t s e on q h = absurd (omega arith)
-  any-found c d (x ∷ es) k zero s e on q h = let z : k ≡ s = omega arith in rw (z, on, q)
-  any-found c d (x ∷ es) k (suc t) s e on q h =
-      ap (λ (w : Bool). (c k && p k x) || w) (any-found c d es (suc k) t s (omega arith) on q (omega arith)) ∙ or-true (c k && p k x)
-
   any-off : (k : ℕ) (es : List A) → some-row (λ i e. chosen 0 i && p i e) k es ≡ false
   any-off k [] = refl
   any-off k (e ∷ es) = rw (chosen-none k) (any-off (suc k) es)
@@ -82,7 +76,7 @@ module _ {A : Type 0} (p : ℕ → A → Bool) where
   any-next {m} {t} L d es h q = any-one (chosen (m - 2 ^ t)) (chosen m) d es 0 t t (sym (zero-add t)) (chosen-cleared L) q (chosen-other L) h
 
   pub any-here : {m t : ℕ} → Lowest m t → (d : A) (es : List A) → t < length es → p t (getD es t d) ≡ true → anyChosen m es ≡ true
-  any-here {m} {t} L d es h q = any-found (chosen m) d es 0 t t (sym (zero-add t)) (chosen-lowest L) q h
+  any-here {m} {t} L d es h q = some-row-at (λ i e. chosen m i && p i e) d es t h (ap₂ _&&_ (chosen-lowest L) q)
 
   pub any-none : (es : List A) → anyChosen 0 es ≡ false
   any-none es = any-off 0 es
