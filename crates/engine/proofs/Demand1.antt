@@ -9,13 +9,12 @@ use mathlib.Core.Logic.{_↔_}
 use mathlib.Core.Option.{Option, none, some}
 use mathlib.Core.Path.{_∙_, _≡_, ap, refl, subst, sym}
 use denote.Ref.{RefT, now}
-use Rattle.model.specs.Calls.{Out, Place as Spot, blockPlace, bothConditions, call, conditionsIn, createCopy, createStore, heard, out, placeBy, readPlace, storeOnlyConditions, storeRefusal, storeSide}
+use Rattle.model.specs.Calls.{Out, Place as Spot, bothConditions, call, conditionsIn, createCopy, createStore, foundPlace, heard, out, placeBy, readPlace, storeOnlyConditions, storeRefusal, storeSide}
 use Rattle.model.specs.Demand1.{Demand1, DoneOn}
 use Rattle.model.specs.History.{Bytes}
 use Rattle.model.specs.Machine.{Add, Answer, Call, Commits, Copy, Delete, Edit, Log, Move, Read, Revert, Show, Status, Update, doing, refused}
 use Rattle.model.specs.Refusals.{Clear, First}
 use Rattle.model.specs.Run.{Typed}
-use Rattle.model.specs.Store.{blockUsed}
 use Rattle.model.specs.Types.{answerOf, createdAs, placeOf}
 use Rattle.laws.proofs.Demand1.{demand-one}
 use Rattle.inner.specs.Performs.{callOf, told}
@@ -130,7 +129,7 @@ read-heard : (store copy : Bytes) (R i : ℕ) → heard store copy (readPlace st
 unfolding readPlace
 read-heard store copy R i = go (storeRefusal store (Read R i))
   where
-    go : (o : Option ℕ) → heard store copy (placeBy o (blockPlace store (blockUsed store R i))) ≡ heard store [] (placeBy o (blockPlace store (blockUsed store R i)))
+    go : (o : Option ℕ) → heard store copy (placeBy o (foundPlace store R i)) ≡ heard store [] (placeBy o (foundPlace store R i))
     go (some n) = refl
     go none = refl
 

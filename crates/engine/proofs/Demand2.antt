@@ -15,7 +15,7 @@ use lib.Dec.{ltb}
 use lib.ListN.{drop, take}
 use Rattle.model.specs.Calls.{Place, logCall, partOf, readPlace}
 use Rattle.model.specs.Demand2.{LaidStore}
-use Rattle.model.specs.History.{Bytes, History, commitAt, last, present, sheet}
+use Rattle.model.specs.History.{Bytes, History, commitAt, last, namer, present, sheet}
 use Rattle.model.specs.Machine.{logOf}
 use Rattle.model.specs.Refusals.{noSheet}
 use Rattle.model.specs.Store.{Holds, blockCount, blockUsed, storeHistory, usedOf}
@@ -109,7 +109,7 @@ module _ (store : Bytes) (e : openOf store ≡ Open (headOf store)) (R i : ℕ) 
 
     read-bytes : take (partOf (readPlace store R i) .1) (drop (partOf (readPlace store R i) .0) store) ≡ b
     read-bytes =
-        let heard = heard-block (blockCount store) store [] (storeHistory store) R i b refl held l s in
+        let heard = heard-block (blockCount store) store [] (storeHistory store) R i (namer (storeHistory store) R i) b refl held l s in
         ap (λ (q : Place). take (partOf q .1) (drop (partOf q .0) store)) (sym (read-found store R i (headOf store) e in-line used)) ∙ cc heard
 
 pub code-demand-two : CodeDemand2

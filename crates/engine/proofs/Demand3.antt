@@ -10,7 +10,7 @@ use lib.ListN.{length, set, take}
 use lib.Seq.{take-length}
 use Rattle.model.specs.Calls.{Buffers, Out, afterTurn, answersOn, call, freshBuffers, heard, out, readCall, readPlace, runOn}
 use Rattle.model.specs.Demand3.{Brings, Finds, NothingPending, WholeList, copyIn}
-use Rattle.model.specs.History.{Bytes, History, sheet}
+use Rattle.model.specs.History.{Bytes, History, namer, sheet}
 use Rattle.model.specs.Machine.{Add, Call, Commits, Copy, Delete, Edit, Move, Revert, Update, asBytes, fresh}
 use Rattle.model.specs.Run.{AllValid, Turn, accepted, answers, run}
 use Rattle.model.specs.Shows.{Shows}
@@ -75,10 +75,11 @@ pub data Trace : Buffers → List Turn → List TheAnswer → Buffers → Type 0
       → Made (b .store) (copyIn b (t .by)) (t .call) r store′ copy′
       → Trace (record { store = store′; copies = set (b .copies) (t .by - 1) copy′ }) ts rs b′ → Trace b (t ∷ ts) (r ∷ rs) b′
 
--- whoever calls `read_place` on this store for sheet i of revision R finds there exactly the bytes that the first R of these commits leave on an empty tree, or refusal 8
+-- whoever calls `read_place` on this store for sheet i of revision R finds there exactly the bytes that the first R of these commits leave on an empty tree, and the last of them that names
+-- the sheet (W3), or refusal 8
 abbrev pub Read : Bytes → History → ℕ → ℕ → Type 0
 Read store h R i = (κs : Lfts 1) (x x′ : RefT Bytes) (r : Place) (R′ i′ : ℕ) → now x ≡ store → read-reads.Learnt κs (x, (R, (i, tt))) r (x′, (R′, (i′, tt)))
-    → heard store [] (placeOf r) ≡ asBytes (sheet h R i)
+    → heard store [] (placeOf r) ≡ asBytes (namer h R i) (sheet h R i)
 
 -- of N blocks and the list ts, where rs are the answers, b the buffers that the calls leave, and h the commits that were accepted
 pub record CodeWholeList (N : ℕ) (ts : List Turn) (rs : List TheAnswer) (b : Buffers) (h : History) : Type 0 where
@@ -130,12 +131,12 @@ traced (next {b = b} {t = t} {ts = ts} {r = r} {rs = rs} {store′ = store′} {
     ap (λ (o : Out). record { store = o .store; copies = set (b .copies) (t .by - 1) (o .copy) }) e in
     (ap₂ _∷_ (ap (λ (o : Out). o .says) e) (q .0 ∙ ap (λ (x : Buffers). answersOn x ts) n), q .1 ∙ ap (λ (x : Buffers). runOn x ts) n)
 
-run-append : (b : Buffers) (ts us : List Turn) → runOn b (ts ++ us) ≡ runOn (runOn b ts) us
+pub run-append : (b : Buffers) (ts us : List Turn) → runOn b (ts ++ us) ≡ runOn (runOn b ts) us
 run-append b [] us = refl
 run-append b (t ∷ ts) us = run-append (afterTurn b t) ts us
 
 -- what `read_place` answers is what the meaning finds
-pub read-is : (store : Bytes) (h : History) (R i : ℕ) → readCall store R i ≡ asBytes (sheet h R i) → Read store h R i
+pub read-is : (store : Bytes) (h : History) (R i : ℕ) → readCall store R i ≡ asBytes (namer h R i) (sheet h R i) → Read store h R i
 read-is store h R i f κs x x′ r R′ i′ e l =
     ap (heard store []) (l .is) ∙ ap (λ (s : Bytes). heard store [] (readPlace s R i)) e ∙ f
 

@@ -1,4 +1,4 @@
--- The laws that the proofs of `engine` and of its callers cite, the demands, and W1 and W2 of document 02 (Ordered, SameEdit).
+-- The laws that the proofs of `engine` and of its callers cite, the demands, and W1, W2 and W3 of document 02 (Ordered, SameEdit, SetBy).
 pub mod Fresh
 pub mod Parts
 pub mod Demand2
@@ -6,3 +6,4 @@ pub mod Demand3
 pub mod Demand1
 pub mod Ordered
 pub mod SameEdit
+pub mod SetBy

@@ -24,7 +24,7 @@ module _ (s : RefT (List ℕ)) (γ : ℕ) {q : Place} where
   pub part-refused : (k : Refusal) → placeOf (Refused k) ≡ q → PartAt s (slPart s (byByte 0 (s .ptr .1)) 0 0 γ) (partOf q)
   part-refused k e = subst (λ (x : Place). PartAt s (slPart s (byByte 0 (s .ptr .1)) 0 0 γ) (partOf x)) e (part-is s 0 0 γ)
 
-  pub part-there : (p : Span) → placeOf (InStore p) ≡ q → PartAt s (slPart s (byByte (p .start) (s .ptr .1)) (p .start) (p .start + p .len) γ) (partOf q)
+  pub part-there : (p : Span) {n : ℕ} → placeOf (InStore p n) ≡ q → PartAt s (slPart s (byByte (p .start) (s .ptr .1)) (p .start) (p .start + p .len) γ) (partOf q)
   part-there p e = subst (λ (x : Place). PartAt s (slPart s (byByte (p .start) (s .ptr .1)) (p .start) (p .start + p .len) γ) (partOf x)) e (part-is s (p .start) (p .len) γ)
 
   -- of no copy there is only the empty part
@@ -39,7 +39,7 @@ module _ (s c : RefT (List ℕ)) (γ : ℕ) {q : Place} where
   pub shown-refused : (k : Refusal) → placeOf (Refused k) ≡ q → ShownAt s c (slPart s (byByte 0 (s .ptr .1)) 0 0 γ) q
   shown-refused k e = subst (λ (x : Place). ShownAt s c (slPart s (byByte 0 (s .ptr .1)) 0 0 γ) x) e (part-is s 0 0 γ)
 
-  pub shown-there : (p : Span) → placeOf (InStore p) ≡ q → ShownAt s c (slPart s (byByte (p .start) (s .ptr .1)) (p .start) (p .start + p .len) γ) q
+  pub shown-there : (p : Span) {n : ℕ} → placeOf (InStore p n) ≡ q → ShownAt s c (slPart s (byByte (p .start) (s .ptr .1)) (p .start) (p .start + p .len) γ) q
   shown-there p e = subst (λ (x : Place). ShownAt s c (slPart s (byByte (p .start) (s .ptr .1)) (p .start) (p .start + p .len) γ) x) e (part-is s (p .start) (p .len) γ)
 
   pub shown-own : (p : Span) → placeOf (InCopy p) ≡ q → ShownAt s c (slPart c (byByte (p .start) (c .ptr .1)) (p .start) (p .start + p .len) γ) q

@@ -8,7 +8,7 @@ use mathlib.Core.Path.{_∙_, _≡_, ap, subst, sym}
 use lib.ListN.{getD}
 use Rattle.model.specs.Calls.{Out, commitCall, out}
 use Rattle.model.specs.Entry.{empty, normal}
-use Rattle.model.specs.History.{Bytes, last}
+use Rattle.model.specs.History.{Bytes, last, namer}
 use Rattle.model.specs.Machine.{Answer, Commits, Status, Update, chosen, done, refused, status}
 use Rattle.model.specs.SameEdit.{AllAgree, Updates, agrees}
 use Rattle.model.specs.Shows.{Accepted}
@@ -33,7 +33,8 @@ pub record CodeSameEdit : Type 2 where
   pub stale : {store copy store′ copy′ : Bytes} {stamp mask : ℕ} {r : TheAnswer} → Accepted store copy → Made store copy (Commits stamp mask) r store′ copy′
       → (i : ℕ) → i < 32 → chosen mask i ≡ true → agrees (storeHistory store) (last (storeHistory store)) i (getD (entriesOf copy) i empty) ≡ true → answerOf r ≡ refused 11
   pub needsMerge : {store copy : Bytes} {i : ℕ} {a : Answer} → Accepted store copy → Looked store copy (Status i) a
-      → (b : ℕ) (x : Bytes) → i < 32 → getD (entriesOf copy) i empty ≡ normal b x → agrees (storeHistory store) (last (storeHistory store)) i (normal b x) ≡ true → a ≡ status 4
+      → (b : ℕ) (x : Bytes) → i < 32 → getD (entriesOf copy) i empty ≡ normal b x → agrees (storeHistory store) (last (storeHistory store)) i (normal b x) ≡ true
+      → a ≡ status 4 (namer (storeHistory store) (last (storeHistory store)) i)
   -- "now count as agreeing": the update is done, and a commit of the same sheets on what it left finds nothing pending
   pub settles : {store copy store′ copy′ store″ copy″ : Bytes} {stamp mask R : ℕ} {r q : TheAnswer} → Accepted store copy → Made store copy (Update mask R) r store′ copy′
       → Made store′ copy′ (Commits stamp mask) q store″ copy″ → (mask ≡ 0 → ⊥) → R ≤ last (storeHistory store) → AllAgree (storeHistory store) mask R (entriesOf copy)

@@ -17,5 +17,5 @@ pub record PartAt (s r : RefT (List ℕ)) (part : ℕ × ℕ) : Type 0 where
 -- r is the part that a place names, of the store s or of the working copy c; refused, the empty part at the store's start
 abbrev pub ShownAt : RefT (List ℕ) → RefT (List ℕ) → RefT (List ℕ) → Place → Type 0
 ShownAt s c r (noPlace n) = PartAt s r (0, 0)
-ShownAt s c r (inStore p m) = PartAt s r (p, m)
+ShownAt s c r (inStore p m n) = PartAt s r (p, m)
 ShownAt s c r (inCopy p m) = PartAt c r (p, m)

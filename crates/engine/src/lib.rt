@@ -57,7 +57,7 @@ pub fn create_copy(copy: &mut [u8], seat: u32) -> Answer
 
 // ---- looking
 
-// The companion of read: the refusal, or where the bytes of the sheet stand in the store.
+// The companion of read: the refusal, or where the bytes of the sheet stand in the store, and the last commit up to the revision that names the sheet.
 pub fn read_place(store: &[u8], revision: u32, sheet: u32) -> Place
     ensures { λ r. ⌜ Located (now (store .entry)) [] (readPlace (now (store .entry)) revision sheet) r ⌝ }
 {
@@ -75,7 +75,7 @@ pub fn read(store: &[u8], revision: u32, sheet: u32) -> &[u8]
     let place = read_place(store, revision, sheet);
     match place {
         Place::Refused(_) => &store[0..0],
-        Place::InStore(p) => {
+        Place::InStore(p, _) => {
             let a = p.start;
             let e = a + p.len;
             &store[a..e]
@@ -95,7 +95,7 @@ pub fn log(store: &[u8], revision: u32, sheet: u32) -> Answer
     }
 }
 
-// The companion of show: the refusal, or where the bytes stand, in the working copy or in the store.
+// The companion of show: the refusal, or where the bytes stand, in the working copy or in the store; from the store, the last commit that names the sheet too.
 pub fn show_place<'a>(store: &'a [u8], copy: &'a [u8], sheet: u32) -> Place
     ensures { λ r. ⌜ Located (now (store .entry)) (now (copy .entry)) (showPlace (now (store .entry)) (now (copy .entry)) sheet) r ⌝ }
 {
@@ -113,7 +113,7 @@ pub fn show<'a>(store: &'a [u8], copy: &'a [u8], sheet: u32) -> &'a [u8]
     let place = show_place(store, copy, sheet);
     match place {
         Place::Refused(_) => &store[0..0],
-        Place::InStore(p) => {
+        Place::InStore(p, _) => {
             let a = p.start;
             let e = a + p.len;
             &store[a..e]
@@ -126,7 +126,7 @@ pub fn show<'a>(store: &'a [u8], copy: &'a [u8], sheet: u32) -> &'a [u8]
     }
 }
 
-// The status of a sheet's entry, 0 to 8.
+// The status of a sheet's entry, 0 to 8, and the last commit that names the sheet.
 pub fn status<'a>(store: &'a [u8], copy: &'a [u8], sheet: u32) -> Answer
     ensures { λ r. ⌜ answerOf r ≡ statusCall (now (store .entry)) (now (copy .entry)) sheet ⌝ }
 {

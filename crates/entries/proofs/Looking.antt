@@ -1,11 +1,11 @@
 -- What a search in an accepted store says of the history: whether a tree has a sheet, and which commit names it last.
 -- Assumes nothing.
-use Prim.Native.Nat.{_<_, _≤_, ℕ}
+use Prim.Native.Nat.{_*_, _+_, _<_, _≤_, ℕ}
 use mathlib.Core.Bool.{false, not}
 use mathlib.Core.List.{List, [], _∷_}
 use mathlib.Core.Logic.{inl, inr}
-use mathlib.Core.Option.{none, some}
-use mathlib.Core.Path.{_∙_, _≡_, ap, refl, subst, sym}
+use mathlib.Core.Option.{Option, none, some}
+use mathlib.Core.Path.{_∙_, _≡_, ap, subst, sym}
 use native.Mathlib.Omega.{arith}
 use borrow.Author.Tests.{eq-eqb, le-leb, lt-leb, ne-eqb}
 use lib.Dec.{eqb, leb, ltb}
@@ -14,17 +14,20 @@ use Rattle.block.proofs.Says.{eq-or}
 use Rattle.model.specs.Blocks.{bytesAt}
 use Rattle.model.specs.Fitting.{has}
 use Rattle.model.specs.History.{Bytes, Change, History, Tree, applied, last, namedAfter, namer, newest, present, sheet, tree, treeFrom, tree₀}
-use Rattle.model.specs.Machine.{bytes}
-use Rattle.model.specs.Store.{blockCount, blockUsed, storeBlocks, storeHistory}
+use Rattle.model.specs.Calls.{storeConditions}
+use Rattle.model.specs.Refusals.{firstOf}
+use Rattle.model.specs.Store.{blockCount, storeBlocks, storeHistory}
 use Rattle.model.specs.declared.Span.{Span}
-use Rattle.laws.proofs.Places.{heard-block}
+use Rattle.laws.proofs.Accepting.{accepted-sound}
+use Rattle.laws.proofs.Places.{store-place}
 use Rattle.laws.proofs.Rows.{and-nothing}
 use Rattle.laws.proofs.Store.{taken-holds}
-use Rattle.laws.proofs.Writing.{is-none}
-use Rattle.entries.specs.View.{Opened}
+use Rattle.laws.proofs.Trees.{unnamed}
+use Rattle.laws.proofs.Writing.{Blocks, holds-blocks, is-none}
+use Rattle.entries.specs.View.{Holding, Opened}
 use Rattle.entries.specs.declared.View.{View}
 use Rattle.search.proofs.Finding.{block-holds, block-inside, block-lacks}
-use Rattle.search.specs.Find.{Spanned, foundIn, spanOf}
+use Rattle.search.specs.Find.{Spanned, foundIn}
 use Rattle.search.specs.declared.Found.{Found}
 
 -- a tree has 32 rows at most
@@ -40,6 +43,18 @@ rows-from t (c ∷ h) = omega (arith, rows-applied (c .changes) t, rows-from (ap
 no-such-sheet : (h : History) (r i : ℕ) → 31 < i → sheet h r i ≡ none
 unfolding tree
 no-such-sheet h r i g = List·getD-eq-default (treeFrom tree₀ (take r h)) none {n = i} (omega (arith, rows-from tree₀ (take r h)))
+
+-- the blocks of a store that is accepted
+abbrev storeBlocksOf : (store : Bytes) → firstOf (storeConditions store) ≡ none → Blocks (blockCount store) store (storeHistory store) (storeBlocks store)
+storeBlocksOf store t = holds-blocks (blockCount store) store (storeHistory store) (taken-holds store t)
+
+-- what stands at the place of a block
+pub block-bytes : (store : Bytes) (p : ℕ) {x : Span} → firstOf (storeConditions store) ≡ none → Spanned store p x → take (x .len) (drop (x .start) store) ≡ bytesAt (storeBlocks store) p
+block-bytes store p t s =
+    let B = storeBlocksOf store t in
+    ap (λ (x : Span). take (x .len) (drop (x .start) store)) (s .is)
+    ∙ ap (λ (l : Bytes). take (length (bytesAt (storeBlocks store) p)) (drop (512 * p + 16) l)) (sym (B .bytes))
+    ∙ store-place (storeBlocks store) p (B .fit)
 
 module _ (store : Bytes) (v : View) (o : Opened store v) where
   pub has-late : (r i : ℕ) → v .last < r → false ≡ has (storeHistory store) r i
@@ -70,27 +85,33 @@ module _ (store : Bytes) (v : View) (o : Opened store v) where
           | inr n ↦ rw (ne-eqb (f .block) 0 n, found-some e n)
         ]
 
-    -- and that block's bytes stand in the store
+    -- and it is one of the store's
     pub found-inside : {f : Found} → f ≡ foundIn store r i → f .block < blockCount store
     found-inside e = subst (λ (f : Found). f .block < blockCount store) (sym e) (block-inside store (v .n) (v .used) (o .accepted) r i .0)
 
-    pub found-bytes : {f : Found} {x : Span} → f ≡ foundIn store r i → (f .block ≡ 0 → ⊥) → Spanned store (f .block) x
-        → sheet (storeHistory store) r i ≡ some (take (x .len) (drop (x .start) store))
-    found-bytes {f} {x} e n s =
-        let q : x ≡ spanOf store (blockUsed store r i) = s .is ∙ ap (λ (f : Found). spanOf store (f .block)) e in
-        let y = bytesAt (storeBlocks store) (f .block) in
-        found-some e n
-        ∙ ap some (sym (ap (λ (x : Span). take (x .len) (drop (x .start) store)) q
-        ∙ inside (heard-block (blockCount store) store [] (storeHistory store) r i y refl (taken-holds store (o .accepted .clear)) in-history (found-some e n))))
-      where
-        inside : {a b : Bytes} → bytes a ≡ bytes b → a ≡ b
-        inside e = cc
+    pub holding-found : {f : Found} → f ≡ foundIn store r i → Holding store (sheet (storeHistory store) r i) (f .block)
+    holding-found {f} e = record {
+      holds =
+          elim (eq-or (f .block) 0) [
+            | inl z ↦ rw (eq-eqb (f .block) 0 z, found-none e z)
+            | inr n ↦ rw (ne-eqb (f .block) 0 n, found-some e n)
+          ];
+      inside = found-inside e;
+    }
 
     pub has-found : {f : Found} → f ≡ foundIn store r i → not (eqb (f .block) 0) ≡ has (storeHistory store) r i
     has-found e = rw (le-leb r (last (storeHistory store)) in-history) (present-found e)
 
   pub newest-found : (i : ℕ) {f : Found} → f ≡ foundIn store (v .last) i → not (eqb (f .block) 0) ≡ present (newest (storeHistory store) i)
   newest-found i e = present-found (v .last) i (omega arith) e ∙ ap (λ (r : ℕ). present (sheet (storeHistory store) r i)) (o .last)
+
+  -- where no commit after b names the sheet, the last tree's block holds what tree b has
+  pub holding-unnamed : (b i : ℕ) {f : Found} → f ≡ foundIn store (v .last) i → b ≤ v .last → f .revision ≤ b → Holding store (sheet (storeHistory store) b i) (f .block)
+  holding-unnamed b i {f} e le n =
+      let B = storeBlocksOf store (o .accepted .clear) in
+      let q : f .revision ≡ namer (storeHistory store) (last (storeHistory store)) i = ap (λ (f : Found). f .revision) e ∙ ap (λ (r : ℕ). namer (storeHistory store) r i) (o .last) in
+      let s = unnamed (storeHistory store) b (last (storeHistory store)) i (accepted-sound (storeBlocks store) (storeHistory store) (B .fit) (B .lays) .0) (omega (arith, o .last)) (omega arith) (omega (arith, q)) in
+      subst (λ (t : Option Bytes). Holding store t (f .block)) (ap (λ (r : ℕ). sheet (storeHistory store) r i) (o .last) ∙ s) (holding-found (v .last) i (omega arith) e)
 
   pub named-found : (i b : ℕ) {f : Found} → f ≡ foundIn store (v .last) i → ltb b (f .revision) ≡ namedAfter (storeHistory store) b i
   named-found i b e = ap (λ (f : Found). ltb b (f .revision)) e ∙ ap (λ (r : ℕ). ltb b (namer (storeHistory store) r i)) (o .last)

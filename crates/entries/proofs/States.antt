@@ -75,9 +75,9 @@ module _ (store copy : Bytes) (v : View) (f : Fitting store copy v) where
     deleted-base q = within (fits-read q .0)
 
 -- an empty entry, beside the answer t whether the last tree has its sheet
-pub status-empty : (h : History) {copy : Bytes} {i : ℕ} {e : TheEntry} {t z : Bool} → Reading copy i e → e .state ≡ Empty → t ≡ present (newest h i) → t ≡ z
-    → cond z 8 0 ≡ statusOf h i (entryIn copy i)
-status-empty h {i = i} r q m z = ap (λ (b : Bool). cond b 8 0) (sym z ∙ m) ∙ sym (ap (statusOf h i) (as-read r q))
+pub status-empty : (h : History) {copy : Bytes} {i : ℕ} {e : TheEntry} (t : Bool) → Reading copy i e → e .state ≡ Empty → t ≡ present (newest h i)
+    → cond t 8 0 ≡ statusOf h i (entryIn copy i)
+status-empty h {i = i} t r q m = ap (λ (b : Bool). cond b 8 0) m ∙ sym (ap (statusOf h i) (as-read r q))
 
 -- ---- a normal entry, beside the answer t whether its bytes differ from its base's
 

@@ -14,13 +14,14 @@ use Rattle.model.specs.Types.{answerOf}
 use Rattle.model.specs.declared.Answer.{Answer}
 use Rattle.model.specs.Entry.{Entry, added, copied, deleted, empty, normal, ownBytes}
 use Rattle.model.specs.Fitting.{fitsStore}
-use Rattle.model.specs.History.{Bytes, last}
-use Rattle.model.specs.Machine.{updatedTo}
+use Rattle.model.specs.History.{Bytes, History, last, namer}
+use Rattle.model.specs.Machine.{statusOf, updatedTo}
 use Rattle.model.specs.Refusals.{conditions, firstOf}
 use Rattle.model.specs.Store.{blockCount, storeBlocks, storeHistory, usedOf}
 use Rattle.model.specs.WorkCopy.{entriesOf, seatOf}
 use Rattle.model.specs.declared.Refusal.{Refusal}
 use Rattle.model.specs.declared.Refusal.the-variants.{CopyLayout, CopyLength, StoreCheck, StoreLayout, StoreLength, Unfit}
+use Rattle.model.specs.declared.Standing.{Standing}
 use Rattle.entries.specs.declared.Checked.{Checked}
 use Rattle.entries.specs.declared.Checked.the-variants.{Ready, Refused}
 use Rattle.entries.specs.declared.Update.{Update}
@@ -71,6 +72,19 @@ orNone (some x) = x
 
 abbrev pub bytesOf : Bytes → ℕ → Bytes
 bytesOf copy i = orNone (ownBytes (entryIn copy i))
+
+-- the bytes that block p of a store holds; block 0 stands for no sheet
+abbrev pub heldIn : Bytes → ℕ → Option Bytes
+heldIn store p = cond (eqb p 0) none (some (bytesAt (storeBlocks store) p))
+
+-- block p of the store holds these bytes, or none: 0
+pub record Holding (store : Bytes) (o : Option Bytes) (p : ℕ) : Type 0 where
+  pub holds : heldIn store p ≡ o
+  pub inside : p < blockCount store
+
+-- the status of an entry, and the last commit that names its sheet
+abbrev pub standingOf : History → ℕ → Entry → Standing
+standingOf h i e = record { status = statusOf h i e; revision = namer h (last h) i }
 
 -- "normal gives 1 up to date, 2 modified, 3 needs patch, 4 needs merge": a commit after the base names the sheet, the entry is modified
 abbrev pub normalStatus : Bool → Bool → ℕ

@@ -1,21 +1,27 @@
 // The entries of a working copy held against an accepted store: whether the copy fits, and what each entry is. Inner functions but for `check`, which takes any two buffers.
 use model::Refusal;
+use model::Standing;
 use model::State;
+use search::Found;
 use store::Header;
 ghost use Prim.Native.Nat.{_<_, _≤_};
 ghost use mathlib.Core.Bool.{not};
+ghost use mathlib.Core.Option.{none};
 ghost use mathlib.Core.Path.{_≡_};
+ghost use Rattle.model.specs.Calls.{storeConditions};
 ghost use Rattle.model.specs.Entry.{pending};
 ghost use Rattle.model.specs.Fitting.{fitsEntry, fitsStore};
 ghost use Rattle.model.specs.Fitting.{has as hasSheet};
 ghost use Rattle.model.specs.History.{isBytes, namedAfter, newest, present, sheet};
-ghost use Rattle.model.specs.Machine.{sameNamer, statusOf};
-ghost use Rattle.model.specs.Refusals.{outOfDate};
-ghost use Rattle.model.specs.Store.{storeHistory};
+ghost use Rattle.model.specs.Machine.{statusOf};
+ghost use Rattle.model.specs.Refusals.{firstOf, outOfDate};
+ghost use Rattle.model.specs.Store.{blockCount, storeHistory};
 ghost use Rattle.model.specs.WorkCopy.{entriesOf};
 ghost use Rattle.store.specs.Opened.{openOf};
 ghost use Rattle.store.specs.declared.Opened.the-variants.{Open};
-ghost use Rattle.entries.specs.View.{Fitting, Opened, UpdateIs, Viewed, agreedAs, bytesOf, checkOf, entryIn, normalStatus, takenAs};
+ghost use Rattle.search.specs.Find.{foundIn};
+ghost use Rattle.workcopy.specs.Copy.{Accepted as CopyAccepted};
+ghost use Rattle.entries.specs.View.{Fitting, Holding, Opened, UpdateIs, Viewed, agreedAs, bytesOf, checkOf, entryIn, heldIn, normalStatus, standingOf, takenAs};
 
 // What is known of two buffers that are accepted: the store's blocks, its used blocks and last revision, and the copy's seat.
 pub struct View {
@@ -111,26 +117,34 @@ pub fn check<'a>(store: &'a [u8], copy: &'a [u8]) -> Checked
     }
 }
 
-// Whether the bytes of entry i are not those of sheet s at revision r.
-pub fn differs<'a>(store: &'a [u8], copy: &'a [u8], v: View, i: usize, r: usize, s: usize) -> bool
-    requires { ⌜ Viewed (now store) (now copy) v × (i < 32) × (r ≤ v .last) × (s < 32) ⌝ }
-    ensures { λ x. ⌜ x ≡ not (isBytes (bytesOf (now (copy .entry)) i) (sheet (storeHistory (now (store .entry))) r s)) ⌝ }
+// Whether the bytes of entry i are not those that block p holds, where 0 stands for no sheet.
+fn unlike<'a>(store: &'a [u8], copy: &'a [u8], i: usize, p: usize) -> bool
+    requires { ⌜ (firstOf (storeConditions (now store)) ≡ none) × CopyAccepted (now copy) × (i < 32) × (p < blockCount (now store)) ⌝ }
+    ensures { λ x. ⌜ x ≡ not (isBytes (bytesOf (now (copy .entry)) i) (heldIn (now (store .entry)) p)) ⌝ }
 {
-    let f = search::look_up(store, v.n, v.used, r, s);
-    if f.block == 0 {
+    if p == 0 {
         return true;
     }
-    let p = search::span_at(store, f.block);
-    let a = p.start;
-    let b = a + p.len;
+    let q = search::span_at(store, p);
+    let a = q.start;
+    let b = a + q.len;
     let e = workcopy::entry_at(copy, i);
     let c = 512 * (i + 1) + 16;
     let d = c + e.len;
     !shape::same_part(&copy[c..d], &store[a..b])
 }
 
+// Whether the bytes of entry i are not those of sheet s at revision r.
+pub fn differs<'a>(store: &'a [u8], copy: &'a [u8], v: View, i: usize, r: usize, s: usize) -> bool
+    requires { ⌜ Viewed (now store) (now copy) v × (i < 32) × (r ≤ v .last) × (s < 32) ⌝ }
+    ensures { λ x. ⌜ x ≡ not (isBytes (bytesOf (now (copy .entry)) i) (sheet (storeHistory (now (store .entry))) r s)) ⌝ }
+{
+    let f = search::look_up(store, v.n, v.used, r, s);
+    unlike(store, copy, i, f.block)
+}
+
 // Whether a commit after revision b names sheet i.
-fn named_since(store: &[u8], v: View, b: usize, i: usize) -> bool
+fn named_since(store: &[u8], v: View, b: u32, i: usize) -> bool
     requires { ⌜ Opened (now store) v × (i < 32) ⌝ }
     ensures { λ x. ⌜ x ≡ namedAfter (storeHistory (now (store .entry))) b i ⌝ }
 {
@@ -177,10 +191,10 @@ pub fn is_stale<'a>(store: &'a [u8], copy: &'a [u8], v: View, i: usize) -> bool
             if !differs(store, copy, v, i, base as usize, i) {
                 return false;
             }
-            named_since(store, v, base as usize, i)
+            named_since(store, v, base, i)
         }
         State::Added => in_newest(store, v, i),
-        State::Deleted(base) => named_since(store, v, base as usize, i),
+        State::Deleted(base) => named_since(store, v, base, i),
         State::Copied(_) => in_newest(store, v, i),
     }
 }
@@ -201,28 +215,53 @@ fn normal_status(later: bool, modified: bool) -> u32
     1
 }
 
-// The status of entry i.
-pub fn status_at<'a>(store: &'a [u8], copy: &'a [u8], v: View, i: usize) -> u32
-    requires { ⌜ Fitting (now store) (now copy) v × (i < 32) ⌝ }
+// The block that holds sheet i at revision b, 0 for none, where f is what the last tree has: the same block, unless a commit after b names the sheet.
+fn block_at(store: &[u8], v: View, f: Found, b: u32, i: usize) -> usize
+    requires { ⌜ Opened (now store) v × (f ≡ foundIn (now store) (v .last) i) × (b ≤ v .last) × (i < 32) ⌝ }
+    ensures { λ x. ⌜ Holding (now (store .entry)) (sheet (storeHistory (now (store .entry))) b i) x ⌝ }
+{
+    if b < f.revision {
+        let g = search::look_up(store, v.n, v.used, b as usize, i);
+        return g.block;
+    }
+    f.block
+}
+
+// The status of entry i, where f is what the last tree has of its sheet.
+fn status_of<'a>(store: &'a [u8], copy: &'a [u8], v: View, i: usize, f: Found) -> u32
+    requires { ⌜ Fitting (now store) (now copy) v × (f ≡ foundIn (now store) (v .last) i) × (i < 32) ⌝ }
     ensures { λ x. ⌜ x ≡ statusOf (storeHistory (now (store .entry))) i (entryIn (now (copy .entry)) i) ⌝ }
 {
     let e = workcopy::entry_at(copy, i);
     let state = e.state;
     match state {
         State::Empty => {
-            if in_newest(store, v, i) {
+            if f.block != 0 {
                 return 8;
             }
             0
         }
         State::Normal(base) => {
-            let later = named_since(store, v, base as usize, i);
-            let modified = differs(store, copy, v, i, base as usize, i);
-            normal_status(later, modified)
+            let p = block_at(store, v, f, base, i);
+            let modified = unlike(store, copy, i, p);
+            normal_status(base < f.revision, modified)
         }
         State::Added => 5,
         State::Deleted(_) => 6,
         State::Copied(_) => 7,
+    }
+}
+
+// The status of entry i, and the last commit that names its sheet: one look at the last tree for both.
+pub fn status_at<'a>(store: &'a [u8], copy: &'a [u8], v: View, i: usize) -> Standing
+    requires { ⌜ Fitting (now store) (now copy) v × (i < 32) ⌝ }
+    ensures { λ x. ⌜ x ≡ standingOf (storeHistory (now (store .entry))) i (entryIn (now (copy .entry)) i) ⌝ }
+{
+    let newest = search::look_up(store, v.n, v.used, v.last, i);
+    let status = status_of(store, copy, v, i, newest);
+    Standing {
+        status,
+        revision: newest.revision,
     }
 }
 
@@ -245,55 +284,47 @@ fn taken(p: usize) -> Update
     Update::Take(p)
 }
 
-// Whether the last commit up to r that names sheet i is the one up to b.
-fn same_namer(store: &[u8], v: View, r: usize, b: usize, i: usize) -> bool
-    requires { ⌜ Opened (now store) v × (r ≤ v .last) × (b ≤ v .last) × (i < 32) ⌝ }
-    ensures { λ x. ⌜ x ≡ sameNamer (storeHistory (now (store .entry))) i r b ⌝ }
-{
-    let f = search::look_up(store, v.n, v.used, r, i);
-    let g = search::look_up(store, v.n, v.used, b, i);
-    f.revision == g.revision
-}
-
 // A pending entry whose bytes equal tree r's, which block p holds, is taken from there; any other is a conflict.
-fn agreed<'a>(store: &'a [u8], copy: &'a [u8], v: View, r: usize, i: usize, p: usize) -> Update
-    requires { ⌜ Viewed (now store) (now copy) v × (i < 32) × (r ≤ v .last) ⌝ }
-    ensures { λ x. ⌜ x ≡ agreedAs (isBytes (bytesOf (now (copy .entry)) i) (sheet (storeHistory (now (store .entry))) r i)) p ⌝ }
+fn agreed<'a>(store: &'a [u8], copy: &'a [u8], i: usize, p: usize) -> Update
+    requires { ⌜ (firstOf (storeConditions (now store)) ≡ none) × CopyAccepted (now copy) × (i < 32) × (p < blockCount (now store)) ⌝ }
+    ensures { λ x. ⌜ x ≡ agreedAs (isBytes (bytesOf (now (copy .entry)) i) (heldIn (now (store .entry)) p)) p ⌝ }
 {
-    if !differs(store, copy, v, i, r, i) {
+    if !unlike(store, copy, i, p) {
         return Update::Take(p);
     }
     Update::Conflict
 }
 
-// What an update to r makes of entry i.
+// What an update to r makes of entry i: one look at tree r, and one at its base's, for the block and the last commit that names the sheet.
 pub fn update_of<'a>(store: &'a [u8], copy: &'a [u8], v: View, r: usize, i: usize) -> Update
     requires { ⌜ Fitting (now store) (now copy) v × (i < 32) × (r ≤ v .last) ⌝ }
     ensures { λ x. ⌜ UpdateIs (now (store .entry)) (now (copy .entry)) r i x ⌝ }
 {
-    let f = search::look_up(store, v.n, v.used, r, i);
-    let p = f.block;
+    let to = search::look_up(store, v.n, v.used, r, i);
+    let p = to.block;
     let e = workcopy::entry_at(copy, i);
     let state = e.state;
     match state {
         State::Empty => taken(p),
         State::Normal(base) => {
-            if !differs(store, copy, v, i, base as usize, i) {
+            let from = search::look_up(store, v.n, v.used, base as usize, i);
+            if !unlike(store, copy, i, from.block) {
                 return taken(p);
             }
-            if same_namer(store, v, r, base as usize, i) {
+            if to.revision == from.revision {
                 return Update::Rebase;
             }
-            agreed(store, copy, v, r, i, p)
+            agreed(store, copy, i, p)
         }
         State::Added => {
             if p == 0 {
                 return Update::Stay;
             }
-            agreed(store, copy, v, r, i, p)
+            agreed(store, copy, i, p)
         }
         State::Deleted(base) => {
-            if same_namer(store, v, r, base as usize, i) {
+            let from = search::look_up(store, v.n, v.used, base as usize, i);
+            if to.revision == from.revision {
                 return Update::Rebase;
             }
             Update::Conflict
@@ -302,7 +333,7 @@ pub fn update_of<'a>(store: &'a [u8], copy: &'a [u8], v: View, r: usize, i: usiz
             if p == 0 {
                 return Update::Stay;
             }
-            agreed(store, copy, v, r, i, p)
+            agreed(store, copy, i, p)
         }
     }
 }

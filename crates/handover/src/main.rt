@@ -32,7 +32,7 @@ fn say_answer(answer: Answer) {
 fn say_place(place: Place) {
     match place {
         Place::Refused(k) => say_number(engine::number(k)),
-        Place::InStore(p) => {
+        Place::InStore(p, _) => {
             say(b"present, length ");
             say_count(p.len);
         }
@@ -170,7 +170,7 @@ fn case_9(store: &mut [u8], one: &mut [u8], two: &mut [u8]) {
 fn say_older(place: Place) {
     match place {
         Place::Refused(_) => say(b"; older revision lacks 5\n"),
-        Place::InStore(_) => say(b"; older revision still has 5\n"),
+        Place::InStore(_, _) => say(b"; older revision still has 5\n"),
         Place::InCopy(_) => say(b"; older revision lacks 5\n"),
     }
 }

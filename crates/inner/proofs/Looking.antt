@@ -8,7 +8,7 @@ use mathlib.Core.Path.{_∙_, _≡_, ap, ap₂, refl, sym}
 use native.Mathlib.Omega.{arith}
 use borrow.Author.Tests.{eq-eqb, le-ltb, lt-ltb, ltb-false, ne-eqb}
 use lib.Dec.{eqb, ltb}
-use Rattle.model.specs.Calls.{answerBy, blockPlace, inStore, logCall, noPlace, placeBy, readPlace, storeSide}
+use Rattle.model.specs.Calls.{answerBy, blockPlace, foundPlace, inStore, logCall, noPlace, placeBy, readPlace, storeSide}
 use Rattle.model.specs.History.{Bytes, last, present, sheet}
 use Rattle.model.specs.Machine.{Log, Read, doing, refused}
 use Rattle.model.specs.Refusals.{_when_, firstOf, noSheet, tooLate}
@@ -20,7 +20,8 @@ use Rattle.model.specs.declared.Span.{Span}
 use Rattle.laws.proofs.Rows.{or-false}
 use Rattle.inner.proofs.Refusing.{store-open, store-refused}
 use Rattle.search.proofs.Finding.{block-holds, block-lacks, open-asked}
-use Rattle.search.specs.Find.{spanOf}
+use Rattle.search.specs.Find.{foundIn, spanOf}
+use Rattle.search.specs.declared.Found.{Found}
 use Rattle.store.proofs.Opening.{open-accepted, open-refused}
 use Rattle.store.specs.Opened.{openOf}
 use Rattle.store.specs.declared.Header.{Header}
@@ -46,7 +47,7 @@ other-line a true c d z e = let w : _≡_ {A = ℕ} 0 1 = cc in absurd (omega ar
 module _ (store : Bytes) (R i : ℕ) where
   pub read-refused : (k : Refusal) → openOf store ≡ Refused k → noPlace (numberOf k) ≡ readPlace store R i
   unfolding readPlace
-  read-refused k e = sym (ap (λ (o : Option ℕ). placeBy o (blockPlace store (blockUsed store R i))) (store-refused store (Read R i) (numberOf k) (open-refused store k e)))
+  read-refused k e = sym (ap (λ (o : Option ℕ). placeBy o (foundPlace store R i)) (store-refused store (Read R i) (numberOf k) (open-refused store k e)))
 
   pub log-refused : (k : Refusal) → openOf store ≡ Refused k → refused (numberOf k) ≡ logCall store R i
   unfolding logCall
@@ -62,12 +63,12 @@ module _ (store : Bytes) (R i : ℕ) where
     line a b = ap (λ (n : ℕ). noSheet i || ltb n R) (sym last-is) ∙ b
 
     read-by : (a b : Bool) → (noSheet i || tooLate (storeHistory store) R) ≡ a → not (present (sheet (storeHistory store) R i)) ≡ b
-        → placeBy (firstOf (7 when a ∷ 8 when b ∷ [])) (blockPlace store (blockUsed store R i)) ≡ readPlace store R i
+        → placeBy (firstOf (7 when a ∷ 8 when b ∷ [])) (foundPlace store R i) ≡ readPlace store R i
     unfolding readPlace
     read-by a b p q =
         sym
-        (ap (λ (o : Option ℕ). placeBy o (blockPlace store (blockUsed store R i))) (store-open store (Read R i) (open-accepted store h e .0))
-        ∙ ap₂ (λ (x y : Bool). placeBy (firstOf (7 when x ∷ 8 when y ∷ [])) (blockPlace store (blockUsed store R i))) p q)
+        (ap (λ (o : Option ℕ). placeBy o (foundPlace store R i)) (store-open store (Read R i) (open-accepted store h e .0))
+        ∙ ap₂ (λ (x y : Bool). placeBy (firstOf (7 when x ∷ 8 when y ∷ [])) (foundPlace store R i)) p q)
 
     log-by : (a : Bool) → (noSheet i || (eqb R 0 || tooLate (storeHistory store) R)) ≡ a
         → answerBy (firstOf (7 when a ∷ [])) (doing (storeSide store) (Log R i) .0) ≡ logCall store R i
@@ -99,12 +100,14 @@ module _ (store : Bytes) (R i : ℕ) where
       pub read-lacking : blockUsed store R i ≡ 0 → noPlace 8 ≡ readPlace store R i
       read-lacking z = read-by false true (line false b) (ap not (block-lacks store (blockCount store) (h .used) (open-asked store h e) R i (in-range .1) .0 z))
 
-      pub read-found : (blockUsed store R i ≡ 0 → ⊥) → blockPlace store (blockUsed store R i) ≡ readPlace store R i
+      pub read-found : (blockUsed store R i ≡ 0 → ⊥) → foundPlace store R i ≡ readPlace store R i
       read-found z =
           read-by false false (line false b) (ap (λ o. not (present o)) (block-holds store (blockCount store) (h .used) (open-asked store h e) R i (in-range .1) z))
 
-      pub read-there : (p : ℕ) (x : Span) → p ≡ blockUsed store R i → (p ≡ 0 → ⊥) → x ≡ spanOf store p → placeOf (InStore x) ≡ readPlace store R i
-      read-there p x u z s = ap (λ (y : Span). inStore (y .start) (y .len)) s ∙ ap (blockPlace store) u ∙ read-found (λ y. z (u ∙ y))
+      pub read-there : (f : Found) (x : Span) → f ≡ foundIn store R i → (f .block ≡ 0 → ⊥) → x ≡ spanOf store (f .block) → placeOf (InStore x (f .revision)) ≡ readPlace store R i
+      read-there f x u z s =
+          ap (λ (y : Span). inStore (y .start) (y .len) (f .revision)) s ∙ ap (λ (f : Found). blockPlace store (f .block) (f .revision)) u
+          ∙ read-found (λ y. z (ap (λ (f : Found). f .block) u ∙ y))
 
       pub log-there : (R ≡ 0 → ⊥) → doing (storeSide store) (Log R i) .0 ≡ logCall store R i
       log-there z = log-by false (log-line z false b)

@@ -35,14 +35,14 @@ use Rattle.store.specs.declared.Opened.the-variants.{Open}
 -- of no copy there is only the empty part
 none-heard : (store copy : Bytes) (x : Place) → Inside store [] x → heard store copy (placeOf x) ≡ heard store [] (placeOf x)
 none-heard store copy (Refused k) h = refl
-none-heard store copy (InStore p) h = refl
+none-heard store copy (InStore p n) h = refl
 none-heard store copy (InCopy p) h =
     let z : p .len ≡ 0 = omega (arith, h) in
-    ap (λ (n : ℕ). bytes (take n (drop (p .start) copy))) z ∙ sym (ap (λ (n : ℕ). bytes (take n (drop (p .start) []))) z)
+    ap (λ (n : ℕ). bytes (take n (drop (p .start) copy)) 0) z ∙ sym (ap (λ (n : ℕ). bytes (take n (drop (p .start) [])) 0) z)
 
 pub none-inside : (store copy : Bytes) (x : Place) → Inside store [] x → Inside store copy x
 none-inside store copy (Refused k) h = h
-none-inside store copy (InStore p) h = h
+none-inside store copy (InStore p n) h = h
 none-inside store copy (InCopy p) h = omega (arith, h)
 
 module _ (store copy : Bytes) (v : View) (F : Fitting store copy v) where

@@ -8,26 +8,29 @@ use mathlib.Core.Path.{_∙_, _≡_, ap, ap₂, refl, sym}
 use native.Mathlib.Omega.{arith}
 use borrow.Author.Tests.{le-ltb, lt-ltb}
 use lib.ListN.{length}
-use Rattle.model.specs.Calls.{Place, answerBy, blockPlace, copyConditions, inCopy, inStore, noPlace, ownPlace, placeBy, refusalOf, showPlace, sideIn, statusCall, storeConditions}
+use Rattle.model.specs.Calls.{Place, answerBy, blockPlace, copyConditions, foundPlace, inCopy, inStore, noPlace, ownPlace, placeBy, refusalOf, showPlace, sideIn, statusCall, storeConditions}
 use Rattle.model.specs.Entry.{ownBytes}
 use Rattle.model.specs.History.{Bytes, last, newest, present}
-use Rattle.model.specs.Machine.{Call, Show, Status, doing, entry, refused, shown, status, statusOf}
+use Rattle.model.specs.Machine.{Call, Show, Status, doing, entry, refused, shown}
 use Rattle.model.specs.Refusals.{_when_, conditions, firstOf, noSheet}
 use Rattle.model.specs.Store.{blockCount, blockUsed, storeHistory}
-use Rattle.model.specs.Types.{entryAs, numberOf, placeOf}
+use Rattle.model.specs.Types.{answerOf, entryAs, numberOf, placeOf}
+use Rattle.model.specs.declared.Answer.the-variants.{Status as StatusIs}
 use Rattle.model.specs.declared.Place.the-variants.{InStore}
 use Rattle.model.specs.declared.Refusal.{Refusal}
 use Rattle.model.specs.declared.Span.{Span}
+use Rattle.model.specs.declared.Standing.{Standing}
 use Rattle.model.specs.declared.State.{State}
 use Rattle.model.specs.declared.State.the-variants.{Added, Copied, Deleted, Empty, Normal}
 use Rattle.laws.proofs.Conditions.{clear, clear-first}
 use Rattle.inner.proofs.Changing.{check-refusal}
 use Rattle.inner.specs.Place.{hasOwn}
 use Rattle.entries.proofs.Checking.{fitting-accepted}
-use Rattle.entries.specs.View.{Fitting, checkOf, entryIn}
+use Rattle.entries.proofs.Looking.{found-inside}
+use Rattle.entries.specs.View.{Fitting, checkOf, entryIn, standingOf}
 use Rattle.entries.specs.declared.Checked.the-variants.{Refused}
 use Rattle.entries.specs.declared.View.{View}
-use Rattle.search.proofs.Finding.{block-holds, block-inside, block-lacks}
+use Rattle.search.proofs.Finding.{block-holds, block-lacks}
 use Rattle.search.specs.Find.{foundIn, spanOf}
 use Rattle.search.specs.declared.Found.{Found}
 
@@ -50,7 +53,7 @@ module _ (store copy : Bytes) where
   pub show-refused : (k : Refusal) (i : ℕ) → checkOf store copy ≡ Refused k → noPlace (numberOf k) ≡ showPlace store copy i
   unfolding showPlace
   show-refused k i e =
-      sym (ap (λ (o : Option ℕ). placeBy o (ownPlace (ownBytes (entry (sideIn store copy) i)) i (blockPlace store (blockUsed store (last (storeHistory store)) i)))) (check-refusal store copy k (Show i) e))
+      sym (ap (λ (o : Option ℕ). placeBy o (ownPlace (ownBytes (entry (sideIn store copy) i)) i (foundPlace store (last (storeHistory store)) i))) (check-refusal store copy k (Show i) e))
 
   pub status-refused : (k : Refusal) (i : ℕ) → checkOf store copy ≡ Refused k → refused (numberOf k) ≡ statusCall store copy i
   unfolding statusCall
@@ -65,18 +68,15 @@ module _ (store copy : Bytes) where
         clear-first (storeConditions store) (copyConditions store copy ++ conditions (sideIn store copy) c) (clear (storeConditions store) (A .storeTaken))
         ∙ clear-first (copyConditions store copy) (conditions (sideIn store copy) c) (clear (copyConditions store copy) (A .copyTaken))
 
-    -- the block that the sheet uses in the last tree, as it was found
-    pub newest-block : (i : ℕ) {f : Found} → f ≡ foundIn store (v .last) i → f .block ≡ blockUsed store (last (storeHistory store)) i
-    newest-block i e = ap (λ (x : Found). x .block) e ∙ ap (λ (n : ℕ). blockUsed store n i) (F .viewed .opened .last)
+    -- what the last tree has of the sheet, as it was found
+    pub newest-is : (i : ℕ) {f : Found} → f ≡ foundIn store (v .last) i → f ≡ foundIn store (last (storeHistory store)) i
+    newest-is i e = e ∙ ap (λ (n : ℕ). foundIn store n i) (F .viewed .opened .last)
 
     pub newest-inside : (i : ℕ) {f : Found} → f ≡ foundIn store (v .last) i → f .block < blockCount store
-    newest-inside i e =
-        let u = newest-block i e in
-        let w = block-inside store (v .n) (v .used) (F .viewed .opened .accepted) (last (storeHistory store)) i .0 in
-        omega (arith, u, w)
+    newest-inside i e = found-inside store v (F .viewed .opened) (v .last) i (omega arith) e
 
     module _ (i : ℕ) where
-      status-by : (a : Bool) → noSheet i ≡ a → answerBy (firstOf (7 when a ∷ [])) (status (statusOf (storeHistory store) i (entryIn copy i))) ≡ statusCall store copy i
+      status-by : (a : Bool) → noSheet i ≡ a → answerBy (firstOf (7 when a ∷ [])) (answerOf (StatusIs (standingOf (storeHistory store) i (entryIn copy i)))) ≡ statusCall store copy i
       unfolding statusCall
       status-by a p =
           sym
@@ -86,11 +86,11 @@ module _ (store copy : Bytes) where
       pub status-beyond : 31 < i → refused 7 ≡ statusCall store copy i
       status-beyond g = status-by true (lt-ltb 31 i g)
 
-      pub status-there : i ≤ 31 → (n : ℕ) → n ≡ statusOf (storeHistory store) i (entryIn copy i) → status n ≡ statusCall store copy i
-      status-there g n e = ap status e ∙ status-by false (le-ltb 31 i g)
+      pub status-there : i ≤ 31 → (x : Standing) → x ≡ standingOf (storeHistory store) i (entryIn copy i) → answerOf (StatusIs x) ≡ statusCall store copy i
+      status-there g x e = ap (λ (y : Standing). answerOf (StatusIs y)) e ∙ status-by false (le-ltb 31 i g)
 
       abbrev there : Option Bytes → Place
-      there o = ownPlace o i (blockPlace store (blockUsed store (last (storeHistory store)) i))
+      there o = ownPlace o i (foundPlace store (last (storeHistory store)) i)
 
       show-by : (a b : Bool) (o : Option Bytes) → noSheet i ≡ a → ownBytes (entryIn copy i) ≡ o → not (present (shown o (newest (storeHistory store) i))) ≡ b
           → placeBy (firstOf (7 when a ∷ 8 when b ∷ [])) (there o) ≡ showPlace store copy i
@@ -108,14 +108,17 @@ module _ (store copy : Bytes) where
         pub show-own : (x : Bytes) → ownBytes (entryIn copy i) ≡ some x → inCopy (512 * (1 + i) + 16) (length x) ≡ showPlace store copy i
         show-own x q = show-by false false (some x) (le-ltb 31 i g) q refl
 
-        module _ (q : ownBytes (entryIn copy i) ≡ none) (p : ℕ) (u : p ≡ blockUsed store (last (storeHistory store)) i) where
-          pub show-lacking : p ≡ 0 → noPlace 8 ≡ showPlace store copy i
+        module _ (q : ownBytes (entryIn copy i) ≡ none) (f : Found) (found : f ≡ foundIn store (v .last) i) where
+          u : f .block ≡ blockUsed store (last (storeHistory store)) i
+          u = ap (λ (x : Found). x .block) (newest-is i found)
+
+          pub show-lacking : f .block ≡ 0 → noPlace 8 ≡ showPlace store copy i
           show-lacking z =
               show-by false true none (le-ltb 31 i g) q
               (ap not (block-lacks store (v .n) (v .used) (F .viewed .opened .accepted) (last (storeHistory store)) i (omega arith) .0 (sym u ∙ z)))
 
-          pub show-there : (p ≡ 0 → ⊥) → (s : Span) → s ≡ spanOf store p → placeOf (InStore s) ≡ showPlace store copy i
+          pub show-there : (f .block ≡ 0 → ⊥) → (s : Span) → s ≡ spanOf store (f .block) → placeOf (InStore s (f .revision)) ≡ showPlace store copy i
           show-there z s w =
-              ap (λ (y : Span). inStore (y .start) (y .len)) w ∙ ap (blockPlace store) u
+              ap (λ (y : Span). inStore (y .start) (y .len) (f .revision)) w ∙ ap (λ (x : Found). blockPlace store (x .block) (x .revision)) (newest-is i found)
               ∙ show-by false false none (le-ltb 31 i g) q
               (ap (λ o. not (present o)) (block-holds store (v .n) (v .used) (F .viewed .opened .accepted) (last (storeHistory store)) i (omega arith) (λ y. z (u ∙ y))))

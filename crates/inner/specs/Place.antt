@@ -15,7 +15,7 @@ use Rattle.model.specs.declared.State.the-variants.{Added, Copied, Deleted, Emp
 -- a place ends within its buffer
 abbrev pub Inside : Bytes → Bytes → ThePlace → Type 0
 Inside store copy (Refused r) = Unit {0}
-Inside store copy (InStore p) = p .start + p .len ≤ length store
+Inside store copy (InStore p n) = p .start + p .len ≤ length store
 Inside store copy (InCopy p) = p .start + p .len ≤ length copy
 
 -- the place that the meanings name, within its buffer; read has no copy

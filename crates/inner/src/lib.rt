@@ -66,7 +66,7 @@ pub fn place_in(store: &[u8], h: Header, revision: u32, sheet: u32) -> Place
     if found.block == 0 {
         return Place::Refused(Refusal::Missing);
     }
-    Place::InStore(search::span_at(store, found.block))
+    Place::InStore(search::span_at(store, found.block), found.revision)
 }
 
 // Log on a store that is open.
@@ -117,7 +117,7 @@ pub fn shown_in<'a>(store: &'a [u8], copy: &'a [u8], v: View, sheet: u32) -> Pla
     if found.block == 0 {
         return Place::Refused(Refusal::Missing);
     }
-    Place::InStore(search::span_at(store, found.block))
+    Place::InStore(search::span_at(store, found.block), found.revision)
 }
 
 // The status of an entry, on a store and a working copy that fits it.

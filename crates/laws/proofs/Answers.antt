@@ -8,17 +8,17 @@ use mathlib.Core.Path.{_∙_, _≡_, ap, refl}
 use native.Mathlib.Omega.{arith}
 use lib.ListN.{getD, length}
 use Rattle.model.specs.Entry.{Entry, added, copied, deleted, empty, modified, normal, ownBytes, pending}
-use Rattle.model.specs.History.{Bytes, History, change, names, newest, nothing, present, sheet}
-use Rattle.model.specs.Machine.{Add, Answer, Call, Commits, Copy, Delete, Edit, Log, Move, Read, Revert, Show, Side, State, Status, Update, agreed, asBytes, asIn, chosen, doing, entry, fresh, orElse, refusal, refused, sameNamer, shown, sideOf, updated, updatedTo}
+use Rattle.model.specs.History.{Bytes, History, change, last, namer, names, newest, nothing, present, sheet}
+use Rattle.model.specs.Machine.{Add, Answer, Call, Commits, Copy, Delete, Edit, Log, Move, Read, Revert, Show, Side, State, Status, Update, agreed, asBytes, asIn, chosen, doing, entry, fresh, orElse, refusal, refused, sameNamer, shown, shownNamer, sideOf, updated, updatedTo}
 use Rattle.model.specs.Refusals.{conditions, firstOf, noSheet, tooLate}
 use Rattle.model.specs.Run.{Turn, accepted, run, sideBy, sideStep, step, stepBy}
 use Rattle.laws.proofs.Conditions.{clear}
 use Rattle.laws.proofs.Lasting.{found}
 use Rattle.laws.proofs.Rows.{rows-at}
 
-shows : (o : Option Bytes) → not (present o) ≡ false → refusal (asBytes o) ≡ none
-shows none e = cc
-shows (some x) e = refl
+shows : (n : ℕ) (o : Option Bytes) → not (present o) ≡ false → refusal (asBytes n o) ≡ none
+shows n none e = cc
+shows n (some x) e = refl
 
 -- where no line holds, no number comes
 done-by : (d : Side) (c : Call) → firstOf (conditions d c) ≡ none → refusal (doing d c .0) ≡ none
@@ -30,8 +30,8 @@ done-by d (Move i j) e = refl
 done-by d (Commits stamp mask) e = refl
 done-by d (Update mask R) e = refl
 done-by d (Revert mask) e = refl
-done-by d (Read R i) e = shows (sheet (d .history) R i) (clear (conditions d (Read R i)) e .1 .0)
-done-by d (Show i) e = shows (shown (ownBytes (entry d i)) (newest (d .history) i)) (clear (conditions d (Show i)) e .1 .0)
+done-by d (Read R i) e = shows (namer (d .history) R i) (sheet (d .history) R i) (clear (conditions d (Read R i)) e .1 .0)
+done-by d (Show i) e = shows (shownNamer (ownBytes (entry d i)) (namer (d .history) (last (d .history)) i)) (shown (ownBytes (entry d i)) (newest (d .history) i)) (clear (conditions d (Show i)) e .1 .0)
 done-by d (Status i) e = refl
 done-by d (Log R i) e = refl
 
@@ -53,27 +53,27 @@ left s seat c n e = left-by (firstOf (conditions (sideOf s seat) c)) s seat c n 
 
 -- ---- read
 
-abbrev pub readBy : Bool → Option Bytes → Answer
-readBy true o = refused 7
-readBy false o = asBytes o
+abbrev pub readBy : Bool → ℕ → Option Bytes → Answer
+readBy true n o = refused 7
+readBy false n o = asBytes n o
 
-pub read-side : (t : Bool) (d : Side) (R i : ℕ) (o : Option Bytes) → sheet (d .history) R i ≡ o → (noSheet i || tooLate (d .history) R) ≡ t
-    → sideStep d (Read R i) .0 ≡ readBy t o
-read-side true d R i o e z = rw z
-read-side false d R i none e z = rw (z, e)
-read-side false d R i (some x) e z = rw (z, e, e)
+pub read-side : (t : Bool) (d : Side) (R i n : ℕ) (o : Option Bytes) → namer (d .history) R i ≡ n → sheet (d .history) R i ≡ o → (noSheet i || tooLate (d .history) R) ≡ t
+    → sideStep d (Read R i) .0 ≡ readBy t n o
+read-side true d R i n o m e z = rw z
+read-side false d R i n none m e z = rw (z, e)
+read-side false d R i n (some x) m e z = rw (z, e, e, m)
 
 read-by : (o : Option ℕ) (s : State) (k R i : ℕ) → stepBy o s k (Read R i) .0 ≡ sideBy o (sideOf s k) (Read R i) .0
 read-by (some n) s k R i = refl
 read-by none s k R i = refl
 
--- what read answers after a list of calls: 7; or else sheet i of the tree of the first R accepted commits, or 8
+-- what read answers after a list of calls: 7; or else sheet i of the tree of the first R accepted commits, with the last of them that names it, or 8
 pub read-after : (N : ℕ) (ts : List Turn) (seat R i : ℕ)
-    → step (run (fresh N) ts) seat (Read R i) .0 ≡ readBy (noSheet i || tooLate (accepted (fresh N) ts) R) (sheet (accepted (fresh N) ts) R i)
+    → step (run (fresh N) ts) seat (Read R i) .0 ≡ readBy (noSheet i || tooLate (accepted (fresh N) ts) R) (namer (accepted (fresh N) ts) R i) (sheet (accepted (fresh N) ts) R i)
 read-after N ts seat R i =
     read-by (firstOf (conditions (sideOf (run (fresh N) ts) seat) (Read R i))) (run (fresh N) ts) seat R i
-    ∙ read-side (noSheet i || tooLate (accepted (fresh N) ts) R) (sideOf (run (fresh N) ts) seat) R i (sheet (accepted (fresh N) ts) R i)
-    (ap (λ (h : History). sheet h R i) (found N ts)) (ap (λ (h : History). noSheet i || tooLate h R) (found N ts))
+    ∙ read-side (noSheet i || tooLate (accepted (fresh N) ts) R) (sideOf (run (fresh N) ts) seat) R i (namer (accepted (fresh N) ts) R i) (sheet (accepted (fresh N) ts) R i)
+    (ap (λ (h : History). namer h R i) (found N ts)) (ap (λ (h : History). sheet h R i) (found N ts)) (ap (λ (h : History). noSheet i || tooLate h R) (found N ts))
 
 -- ---- update
 

@@ -8,7 +8,7 @@ use mathlib.Core.Option.{Option, none, some}
 use mathlib.Core.Path.{_∙_, _≡_, ap, refl, subst, sym}
 use native.Mathlib.Omega.{arith}
 use lib.ListN.{replicate}
-use Rattle.model.specs.Calls.{Out, answerBy, blockPlace, bothConditions, call, changeBy, changeCall, conditionsIn, createBy, createCopy, createCopyConditions, createStore, freshCopy, freshStore, heard, logCall, out, ownPlace, placeBy, readCall, readPlace, refusalOf, showPlace, sideIn, sizeCondition, statusCall, storeConditions, storeOnlyConditions, storeRefusal, storeSide}
+use Rattle.model.specs.Calls.{Out, answerBy, bothConditions, call, changeBy, changeCall, conditionsIn, createBy, createCopy, createCopyConditions, createStore, foundPlace, freshCopy, freshStore, heard, logCall, out, ownPlace, placeBy, readCall, readPlace, refusalOf, showPlace, sideIn, sizeCondition, statusCall, storeConditions, storeOnlyConditions, storeRefusal, storeSide}
 use Rattle.model.specs.Demand1.{Demand1, DoneOn, Refuses}
 use Rattle.model.specs.Entry.{empty, ownBytes}
 use Rattle.model.specs.Fitting.{FitsEntry}
@@ -17,7 +17,7 @@ use Rattle.model.specs.Machine.{Add, Answer, Call, Commits, Copy, Delete, Edit,
 use Rattle.model.specs.Refusals.{Clear, Condition, First, conditions, firstOf}
 use Rattle.model.specs.Run.{Typed, sideBy, sideStep}
 use Rattle.model.specs.Shows.{Accepted, Seen}
-use Rattle.model.specs.Store.{blockCount, blockUsed, storeHistory}
+use Rattle.model.specs.Store.{blockCount, storeHistory}
 use Rattle.laws.proofs.Accepted.{accepted-call, clear-accepted}
 use Rattle.laws.proofs.Conditions.{clear-split, first-iff, none-holds}
 use Rattle.laws.proofs.Demand2.{laid-copy}
@@ -36,15 +36,15 @@ refused-leaves store copy (Commits stamp mask) n e = ap (λ (o : Option ℕ). ch
 refused-leaves store copy (Update mask R) n e = ap (λ (o : Option ℕ). changeBy o store copy (Update mask R)) e
 refused-leaves store copy (Revert mask) n e = ap (λ (o : Option ℕ). changeBy o store copy (Revert mask)) e
 refused-leaves store copy (Read R i) n e =
-    ap (λ (o : Option ℕ). out (heard store [] (placeBy o (blockPlace store (blockUsed store R i)))) store copy) e
+    ap (λ (o : Option ℕ). out (heard store [] (placeBy o (foundPlace store R i))) store copy) e
 refused-leaves store copy (Show i) n e =
-    ap (λ (o : Option ℕ). out (heard store copy (placeBy o (ownPlace (ownBytes (entry (sideIn store copy) i)) i (blockPlace store (blockUsed store (last (storeHistory store)) i))))) store copy) e
+    ap (λ (o : Option ℕ). out (heard store copy (placeBy o (ownPlace (ownBytes (entry (sideIn store copy) i)) i (foundPlace store (last (storeHistory store)) i)))) store copy) e
 refused-leaves store copy (Status i) n e = ap (λ (o : Option ℕ). out (answerBy o (doing (sideIn store copy) (Status i) .0)) store copy) e
 refused-leaves store copy (Log R i) n e = ap (λ (o : Option ℕ). out (answerBy o (doing (storeSide store) (Log R i) .0)) store copy) e
 
-own-heard : (store copy : Bytes) (o : Option Bytes) (i p : ℕ) → refusal (heard store copy (ownPlace o i (blockPlace store p))) ≡ none
-own-heard store copy none i p = refl
-own-heard store copy (some x) i p = refl
+own-heard : (store copy : Bytes) (o : Option Bytes) (i R : ℕ) → refusal (heard store copy (ownPlace o i (foundPlace store R i))) ≡ none
+own-heard store copy none i R = refl
+own-heard store copy (some x) i R = refl
 
 -- a call of which no line holds
 pub unrefused-answers : (store copy : Bytes) (c : Call) → firstOf (conditionsIn store copy c) ≡ none → refusal (call store copy c .says) ≡ none
@@ -57,10 +57,10 @@ unrefused-answers store copy (Move s t) e = ap (λ (o : Option ℕ). refusal (ch
 unrefused-answers store copy (Commits stamp mask) e = ap (λ (o : Option ℕ). refusal (changeBy o store copy (Commits stamp mask) .says)) e
 unrefused-answers store copy (Update mask R) e = ap (λ (o : Option ℕ). refusal (changeBy o store copy (Update mask R) .says)) e
 unrefused-answers store copy (Revert mask) e = ap (λ (o : Option ℕ). refusal (changeBy o store copy (Revert mask) .says)) e
-unrefused-answers store copy (Read R i) e = ap (λ (o : Option ℕ). refusal (heard store [] (placeBy o (blockPlace store (blockUsed store R i))))) e
+unrefused-answers store copy (Read R i) e = ap (λ (o : Option ℕ). refusal (heard store [] (placeBy o (foundPlace store R i)))) e
 unrefused-answers store copy (Show i) e =
-    ap (λ (o : Option ℕ). refusal (heard store copy (placeBy o (ownPlace (ownBytes (entry (sideIn store copy) i)) i (blockPlace store (blockUsed store (last (storeHistory store)) i)))))) e
-    ∙ own-heard store copy (ownBytes (entry (sideIn store copy) i)) i (blockUsed store (last (storeHistory store)) i)
+    ap (λ (o : Option ℕ). refusal (heard store copy (placeBy o (ownPlace (ownBytes (entry (sideIn store copy) i)) i (foundPlace store (last (storeHistory store)) i))))) e
+    ∙ own-heard store copy (ownBytes (entry (sideIn store copy) i)) i (last (storeHistory store))
 unrefused-answers store copy (Status i) e = ap (λ (o : Option ℕ). refusal (answerBy o (doing (sideIn store copy) (Status i) .0))) e
 unrefused-answers store copy (Log R i) e = ap (λ (o : Option ℕ). refusal (answerBy o (doing (storeSide store) (Log R i) .0))) e
 

@@ -13,7 +13,7 @@ use lib.ListN.{getD, length, length-append, take}
 use Rattle.model.specs.Calls.{Buffers, afterTurn, answersOn, call, freshBuffers, readCall, runOn}
 use Rattle.model.specs.Demand3.{Brings, Demand3, Finds, NothingPending, copyIn}
 use Rattle.model.specs.Entry.{Entry, added, copied, deleted, empty, modified, normal, pending}
-use Rattle.model.specs.History.{History, change, last, names, nothing, sheet}
+use Rattle.model.specs.History.{History, change, last, namer, names, nothing, sheet}
 use Rattle.model.specs.Invariant.{Kept}
 use Rattle.model.specs.Machine.{Answer, Side, State, Update, agreed, asBytes, asIn, chosen, doing, entry, fresh, sameNamer, sideOf, updated}
 use Rattle.model.specs.Refusals.{conditions, conflict, firstOf, lacking, tooLate}
@@ -27,7 +27,7 @@ use Rattle.laws.proofs.Invariant.{kept-fresh, kept-run, kept-side, kept
 use Rattle.laws.proofs.Lasting.{found}
 use Rattle.laws.proofs.Rows.{and-nothing, no-rows}
 use Rattle.laws.proofs.Steps.{one-step, read-one, seen-seat, side-one}
-use Rattle.laws.proofs.Trees.{sheet-grown}
+use Rattle.laws.proofs.Trees.{namer-grown, sheet-grown}
 use Rattle.laws.proofs.WorkCopy.{holds-copy}
 
 -- ---- a list of calls
@@ -47,11 +47,11 @@ valid-take zero ts v = tt
 valid-take (suc n) [] v = tt
 valid-take (suc n) (t ∷ ts) v = (v .0, valid-take n ts (v .1))
 
-valid-append : (ts us : List Turn) → AllValid ts → AllValid us → AllValid (ts ++ us)
+pub valid-append : (ts us : List Turn) → AllValid ts → AllValid us → AllValid (ts ++ us)
 valid-append [] us v w = w
 valid-append (t ∷ ts) us v w = (v .0, valid-append ts us (v .1) w)
 
-accepted-append : (s : State) (us vs : List Turn) → accepted s (us ++ vs) ≡ accepted s us ++ accepted (run s us) vs
+pub accepted-append : (s : State) (us vs : List Turn) → accepted s (us ++ vs) ≡ accepted s us ++ accepted (run s us) vs
 accepted-append s [] vs = refl
 accepted-append s (t ∷ us) vs =
     let new : History = cond (isRevision (step s (t .by) (t .call) .0)) (asked (sideOf s (t .by)) (t .call)) [] in
@@ -60,10 +60,10 @@ accepted-append s (t ∷ us) vs =
 
 -- what read finds in buffers that show a state
 read-found : (N : ℕ) (b : Buffers) (s : State) (R i : ℕ) → Shows N b s → Kept s → R ≤ last (s .history) → i ≤ 31
-    → readCall (b .store) R i ≡ asBytes (sheet (s .history) R i)
+    → readCall (b .store) R i ≡ asBytes (namer (s .history) R i) (sheet (s .history) R i)
 read-found N b s R i W K le small =
     read-one N (b .store) (getD (b .copies) 0 []) (sideOf s 1) (seen-seat N b s 1 W (omega arith) (omega arith)) (kept-side s 1 K (omega arith) (omega arith)) (omega arith) (omega arith) R i
-    ∙ read-side false (sideOf s 1) R i (sheet (s .history) R i) refl
+    ∙ read-side false (sideOf s 1) R i (namer (s .history) R i) (sheet (s .history) R i) refl refl
     (let p : ltb 31 i ≡ false = le-ltb 31 i small in let q : ltb (last (s .history)) R ≡ false = le-ltb (last (s .history)) R le in ap₂ _||_ p q)
 
 -- a seat with nothing pending meets no conflict
@@ -122,7 +122,8 @@ demand-three N ts lo hi v = record {
       let e = accepted-append (fresh N) ts us in
       let le′ : R ≤ length (accepted (fresh N) (ts ++ us)) = (let n = ap length e ∙ length-append (accepted (fresh N) ts) (accepted (run (fresh N) ts) us) in omega (arith, n)) in
       finds (ts ++ us) (valid-append ts us v w) R i le′ small
-      ∙ ap asBytes (ap (λ (h : History). sheet h R i) e ∙ sheet-grown (accepted (fresh N) ts) (accepted (run (fresh N) ts) us) R i le);
+      ∙ ap (λ (h : History). asBytes (namer h R i) (sheet h R i)) e
+      ∙ ap₂ asBytes (namer-grown (accepted (fresh N) ts) (accepted (run (fresh N) ts) us) R i le) (sheet-grown (accepted (fresh N) ts) (accepted (run (fresh N) ts) us) R i le);
 }
   where
     shows-after : (us : List Turn) → AllValid us → Shows N (runOn (freshBuffers N) us) (run (fresh N) us)
@@ -134,4 +135,4 @@ demand-three N ts lo hi v = record {
     finds : (us : List Turn) → AllValid us → (R i : ℕ) → R ≤ length (accepted (fresh N) us) → i ≤ 31 → Finds (runOn (freshBuffers N) us) (accepted (fresh N) us) R i
     finds us w R i le small =
         read-found N (runOn (freshBuffers N) us) (run (fresh N) us) R i (shows-after us w) (kept-after us w) (subst (λ (h : History). R ≤ last h) (sym (found N us)) le) small
-        ∙ ap (λ (h : History). asBytes (sheet h R i)) (found N us)
+        ∙ ap (λ (h : History). asBytes (namer h R i) (sheet h R i)) (found N us)

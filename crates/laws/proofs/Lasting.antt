@@ -12,9 +12,9 @@ use Rattle.model.specs.Run.{Turn, accepted, asked, isRevision, run, step, stepB
 use Rattle.laws.proofs.Trees.{sheet-grown}
 
 -- read and show answer no revision
-not-revision : (o : Option Bytes) → isRevision (asBytes o) ≡ false
-not-revision none = refl
-not-revision (some x) = refl
+not-revision : (n : ℕ) (o : Option Bytes) → isRevision (asBytes n o) ≡ false
+not-revision n none = refl
+not-revision n (some x) = refl
 
 grown-by : (o : Option ℕ) (s : State) (k : ℕ) (c : Call)
     → stepBy o s k c .1 .history ≡ s .history ++ cond (isRevision (stepBy o s k c .0)) (asked (sideOf s k) c) []

@@ -31,3 +31,4 @@ pub mod Replaying
 pub mod Order
 pub mod Ordered
 pub mod SameEdit
+pub mod SetBy

@@ -15,7 +15,7 @@ use Rattle.model.specs.Blocks.{Block, blank, commit, content, fieldsOf}
 use Rattle.model.specs.Calls.{Buffers, afterTurn, bothConditions, call, changeBy, changeCall, commitCall, freshBuffers, freshCopy, freshStore, refusalOf, runOn, sideIn, storeConditions, storeWith}
 use Rattle.model.specs.Codec.{joined}
 use Rattle.model.specs.Demand2.{LaidStore}
-use Rattle.model.specs.History.{Bytes, Commit, History, last, noCommit, sheet}
+use Rattle.model.specs.History.{Bytes, Commit, History, last, namer, noCommit, sheet}
 use Rattle.model.specs.Invariant.{Kept, Made, takes}
 use Rattle.model.specs.Layout.{Lays, Table}
 use Rattle.model.specs.Machine.{Add, Answer, Call, Commits, Copy, Delete, Edit, Log, Move, Read, Revert, Show, Side, State, Status, Update, blocksFor, fresh, newCommit, revision, sideOf}
@@ -251,7 +251,7 @@ list-bytes N ts lo hi v =
     list-adds N (freshBuffers N) (fresh N) ts (fresh-shows N lo hi) (kept-fresh N (omega arith)) v ∙ fresh-continued N (accepted (fresh N) ts) (omega arith)
 
 -- the history that is read in what a list leaves is that of its accepted commits
-list-history : (N : ℕ) (ts : List Turn) → 2 ≤ N → N ≤ 4_096 → AllValid ts → storeHistory (runOn (freshBuffers N) ts .store) ≡ accepted (fresh N) ts
+pub list-history : (N : ℕ) (ts : List Turn) → 2 ≤ N → N ≤ 4_096 → AllValid ts → storeHistory (runOn (freshBuffers N) ts .store) ≡ accepted (fresh N) ts
 list-history N ts lo hi v =
     let W = whole N (freshBuffers N) (fresh N) ts (fresh-shows N lo hi) (kept-fresh N (omega arith)) v .1 in
     history-held N (runOn (freshBuffers N) ts .store) (run (fresh N) ts .history) (W .store .holds) ∙ found N ts
@@ -348,7 +348,7 @@ laid-read store h L =
           let seven : (noSheet i || tooLate (storeHistory store) R) ≡ false =
           ap₂ _||_ (le-ltb 31 i small) (le-ltb (last (storeHistory store)) R (subst (λ (k : History). R ≤ last k) (sym e) le)) in
           accepted-call store (freshCopy 1) A (Read R i) tt .0
-          ∙ read-side false (sideIn store (freshCopy 1)) R i (sheet h R i) (ap (λ (k : History). sheet k R i) e) seven;
+          ∙ read-side false (sideIn store (freshCopy 1)) R i (namer h R i) (sheet h R i) (ap (λ (k : History). namer k R i) e) (ap (λ (k : History). sheet k R i) e) seven;
     }
 
 commits-done : (store copy : Bytes) (stamp mask R : ℕ) → stamp < 2 ^ 32 → commitCall store copy stamp mask .says ≡ revision R

@@ -115,21 +115,21 @@ used-bytes bs h R i x L le e =
     slot-bytes (bytesAt bs) (getD (getD (tablesOf bs) R []) i 0) x
     (sym (slot-at (bytesAt bs) (getD (tablesOf bs) R []) i) ∙ ap (λ (k : Tree). getD k i none) t ∙ e)
 
--- THE STATEMENT for the store: what stands at the place of sheet i of tree R
-pub heard-block : (N : ℕ) (store copy : Bytes) (h : History) (R i : ℕ) (x : Bytes) → blockCount store ≡ N → Holds N store h → R ≤ last h → sheet h R i ≡ some x
-    → heard store copy (blockPlace store (blockUsed store R i)) ≡ bytes x
-heard-block N store copy h R i x n H le e =
+-- THE STATEMENT for the store: what stands at the place of sheet i of tree R, whatever number v goes with it
+pub heard-block : (N : ℕ) (store copy : Bytes) (h : History) (R i v : ℕ) (x : Bytes) → blockCount store ≡ N → Holds N store h → R ≤ last h → sheet h R i ≡ some x
+    → heard store copy (blockPlace store (blockUsed store R i) v) ≡ bytes x v
+heard-block N store copy h R i v x n H le e =
     let B = holds-blocks N store h H in
     let bs : List Block = blocksOf N store in
     let p : ℕ = getD (getD (tablesOf bs) R []) i 0 in
-    ap (λ (m : ℕ). heard store copy (inStore (512 * getD (getD (tablesOf (blocksOf m store)) R []) i 0 + 16) (length (bytesAt (blocksOf m store) (getD (getD (tablesOf (blocksOf m store)) R []) i 0))))) n
-    ∙ ap (λ (l : Bytes). bytes (take (length (bytesAt bs p)) (drop (512 * p + 16) l))) (sym (B .bytes))
-    ∙ ap bytes (store-place bs p (B .fit) ∙ used-bytes bs h R i x (B .lays) le e)
+    ap (λ (m : ℕ). heard store copy (inStore (512 * getD (getD (tablesOf (blocksOf m store)) R []) i 0 + 16) (length (bytesAt (blocksOf m store) (getD (getD (tablesOf (blocksOf m store)) R []) i 0))) v)) n
+    ∙ ap (λ (l : Bytes). bytes (take (length (bytesAt bs p)) (drop (512 * p + 16) l)) v) (sym (B .bytes))
+    ∙ ap (λ (y : Bytes). bytes y v) (store-place bs p (B .fit) ∙ used-bytes bs h R i x (B .lays) le e)
 
 -- ---- in the working copy
 
 pub heard-own : (store copy : Bytes) (k : ℕ) (es : List Entry) (i : ℕ) (x : Bytes) → HoldsCopy copy k es → i ≤ 31 → ownBytes (getD es i empty) ≡ some x
-    → heard store copy (inCopy (512 * (1 + i) + 16) (length x)) ≡ bytes x
+    → heard store copy (inCopy (512 * (1 + i) + 16) (length x)) ≡ bytes x 0
 unfolding HoldsCopy
 heard-own store copy k es i x H le e =
     let ps : List CopyBlock = seatBlock k ∷ map entryBlock es in
@@ -138,8 +138,8 @@ heard-own store copy k es i x H le e =
     let g : getD (map entryBlock es) i (entryBlock empty) ≡ entryBlock (getD es i empty) = List·getD-map entryBlock es i empty in
     let q = part-from copyFields ps (suc i) (entryBlock empty) n in
     let f : FitsCopyBlock (entryBlock (getD es i empty)) = subst FitsCopyBlock g (All-getD FitsCopyBlock (map entryBlock es) i (entryBlock empty) (H .2) tt) in
-    ap (λ (m : ℕ). bytes (take (length x) (drop (512 * m + 16) copy))) s
-    ∙ ap (λ (l : Bytes). bytes (take (length x) (drop (512 * suc i + 16) l))) (sym (H .3))
-    ∙ ap (λ (l : Bytes). bytes (take (length x) l)) (q .1)
-    ∙ ap (λ (r : CopyBlock). bytes (take (length x) (drop 16 (encode copyFields r) ++ q .0))) g
-    ∙ ap bytes (piece-body (getD es i empty) x e f (q .0))
+    ap (λ (m : ℕ). bytes (take (length x) (drop (512 * m + 16) copy)) 0) s
+    ∙ ap (λ (l : Bytes). bytes (take (length x) (drop (512 * suc i + 16) l)) 0) (sym (H .3))
+    ∙ ap (λ (l : Bytes). bytes (take (length x) l) 0) (q .1)
+    ∙ ap (λ (r : CopyBlock). bytes (take (length x) (drop 16 (encode copyFields r) ++ q .0)) 0) g
+    ∙ ap (λ (y : Bytes). bytes y 0) (piece-body (getD es i empty) x e f (q .0))

@@ -289,14 +289,14 @@ module _ (store copy : Bytes) (A : Accepted store copy) where
       let eleven : someStale d mask ≡ true = some-row-at (λ i e. chosen mask i && outOfDate h i e) empty es i l (ap₂ _&&_ c (is-stale h i (getD es i empty) (K .sound) (K .fits i) z)) in
       commit-refused stamp mask 11 (rw (seven, ten, eleven))
 
-  needs-merge : (i b : ℕ) (x : Bytes) → i < 32 → getD es i empty ≡ normal b x → agrees h (last h) i (normal b x) ≡ true → statusCall store copy i ≡ status 4
+  needs-merge : (i b : ℕ) (x : Bytes) → i < 32 → getD es i empty ≡ normal b x → agrees h (last h) i (normal b x) ≡ true → statusCall store copy i ≡ status 4 (namer h (last h) i)
   needs-merge i b x g e z =
       let K = accepted-kept store copy A in
       let seven : ltb 31 i ≡ false = le-ltb 31 i (omega arith) in
       let n : namedAfter h b i ≡ true = named-since h i b x (K .sound) (subst (FitsAt h i) e (K .fits i)) z in
       let m : modified h i b x ≡ true = both (modified h i b x) (isBytes x (newest h i)) z .0 in
       let s : statusOf h i (normal b x) ≡ 4 = rw (n, m) in
-      accepted-call store copy A (Status i) tt .0 ∙ rw seven (ap status (ap (statusOf h i) e ∙ s))
+      accepted-call store copy A (Status i) tt .0 ∙ rw seven (ap (λ (s : ℕ). status s (namer h (last h) i)) (ap (statusOf h i) e ∙ s))
 
 -- nothing chosen is pending
 nothing-left : (store copy : Bytes) → Accepted store copy → (stamp mask : ℕ) → (mask ≡ 0 → ⊥)

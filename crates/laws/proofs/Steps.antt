@@ -15,13 +15,13 @@ use lib.Seq.{getD-set-other, getD-set-same, set-getD}
 use Rattle.block.proofs.Says.{eq-or, is-true}
 use Rattle.block.specs.Lists.{All}
 use Rattle.model.specs.Blocks.{fieldsOf}
-use Rattle.model.specs.Calls.{Buffers, Out, afterTurn, answerBy, blockPlace, call, changeBy, changeCall, copyConditions, heard, logCall, out, ownPlace, placeBy, readCall, readPlace, refusalOf, showCall, showPlace, sideIn, statusCall, storeConditions, storeRefusal, storeSide, storeWith, turnOn}
+use Rattle.model.specs.Calls.{Buffers, Out, afterTurn, answerBy, blockPlace, call, changeBy, changeCall, copyConditions, foundPlace, heard, logCall, out, ownPlace, placeBy, readCall, readPlace, refusalOf, showCall, showPlace, sideIn, statusCall, storeConditions, storeRefusal, storeSide, storeWith, turnOn}
 use Rattle.model.specs.Codec.{joined}
 use Rattle.model.specs.Entry.{Entry, added, copied, deleted, empty, normal, ownBytes}
 use Rattle.model.specs.Fitting.{fitsEntry, fitsStore, has}
-use Rattle.model.specs.History.{Bytes, Commit, History, last, newest, present, sheet}
+use Rattle.model.specs.History.{Bytes, Commit, History, last, namer, newest, present, sheet}
 use Rattle.model.specs.Invariant.{Base, FitsAt, Kept}
-use Rattle.model.specs.Machine.{Add, Answer, Call, Commits, Copy, Delete, Edit, Log, Move, Read, Revert, Show, Side, State, Status, Update, asBytes, blocksFor, doing, entry, newCommit, put, shown, sideOf}
+use Rattle.model.specs.Machine.{Add, Answer, Call, Commits, Copy, Delete, Edit, Log, Move, Read, Revert, Show, Side, State, Status, Update, asBytes, blocksFor, doing, entry, newCommit, put, shown, shownNamer, sideOf}
 use Rattle.model.specs.Refusals.{Clear, _when_, conditions, firstOf, noSheet, tooLate}
 use Rattle.model.specs.Rows.{some-row}
 use Rattle.model.specs.Run.{Turn, Typed, Valid, asked, sideBy, sideStep, step, stepBy}
@@ -202,31 +202,32 @@ module _ (N : ℕ) (store copy : Bytes) (d : Side) (E : Seen N store copy d) (K 
   look-one : (a : Answer) (c : Call) → doing d c .1 ≡ d → a ≡ sideStep d c .0 → Agrees (out a store copy) (sideStep d c)
   look-one a c e q = (q, subst (Seen N store copy) (sym (still-by (firstOf (conditions d c)) c e)) E)
 
-  heard-by : (copy′ : Bytes) (o : Option Bytes) (R i : ℕ) → R ≤ last (d .history) → sheet (d .history) R i ≡ o → not (present o) ≡ false
-      → heard store copy′ (blockPlace store (blockUsed store R i)) ≡ asBytes o
-  heard-by copy′ none R i le e q = let z : _≡_ {A = ℕ} 0 1 = cc in absurd (omega arith)
-  heard-by copy′ (some x) R i le e q = heard-block N store copy′ (d .history) R i x counted (E .stored .holds) le e
+  heard-by : (copy′ : Bytes) (o : Option Bytes) (R i v : ℕ) → R ≤ last (d .history) → sheet (d .history) R i ≡ o → not (present o) ≡ false
+      → heard store copy′ (blockPlace store (blockUsed store R i) v) ≡ asBytes v o
+  heard-by copy′ none R i v le e q = let z : _≡_ {A = ℕ} 0 1 = cc in absurd (omega arith)
+  heard-by copy′ (some x) R i v le e q = heard-block N store copy′ (d .history) R i v x counted (E .stored .holds) le e
 
   read-by : (o : Option ℕ) (R i : ℕ) → firstOf (conditions d (Read R i)) ≡ o
-      → heard store [] (placeBy o (blockPlace store (blockUsed store R i))) ≡ sideBy o d (Read R i) .0
+      → heard store [] (placeBy o (blockPlace store (blockUsed store R i) (namer (d .history) R i))) ≡ sideBy o d (Read R i) .0
   read-by (some n) R i e = refl
   read-by none R i e =
       let l = clear (conditions d (Read R i)) e in
-      heard-by [] (sheet (d .history) R i) R i (ltb-false (last (d .history)) R (or-false (noSheet i) (tooLate (d .history) R) (l .0) .1)) refl (l .1 .0)
+      heard-by [] (sheet (d .history) R i) R i (namer (d .history) R i) (ltb-false (last (d .history)) R (or-false (noSheet i) (tooLate (d .history) R) (l .0) .1)) refl (l .1 .0)
 
   pub read-one : (R i : ℕ) → readCall store R i ≡ sideStep d (Read R i) .0
   unfolding readPlace
   read-one R i =
-      ap (λ (o : Option ℕ). heard store [] (placeBy o (blockPlace store (blockUsed store R i)))) (read-refusal R i)
+      ap₂ (λ (o : Option ℕ) (h : History). heard store [] (placeBy o (blockPlace store (blockUsed store R i) (namer h R i)))) (read-refusal R i) same-history
       ∙ read-by (firstOf (conditions d (Read R i))) R i refl
 
   shown-by : (o : Option Bytes) (i : ℕ) → i ≤ 31 → ownBytes (entry d i) ≡ o → not (present (shown o (newest (d .history) i))) ≡ false
-      → heard store copy (ownPlace o i (blockPlace store (blockUsed store (last (d .history)) i))) ≡ asBytes (shown o (newest (d .history) i))
-  shown-by none i le e q = heard-by copy (newest (d .history) i) (last (d .history)) i (let z : last (d .history) ≤ last (d .history) = omega arith in z) refl q
+      → heard store copy (ownPlace o i (blockPlace store (blockUsed store (last (d .history)) i) (namer (d .history) (last (d .history)) i)))
+      ≡ asBytes (shownNamer o (namer (d .history) (last (d .history)) i)) (shown o (newest (d .history) i))
+  shown-by none i le e q = heard-by copy (newest (d .history) i) (last (d .history)) i (namer (d .history) (last (d .history)) i) (let z : last (d .history) ≤ last (d .history) = omega arith in z) refl q
   shown-by (some x) i le e q = heard-own store copy (d .seat) (d .entries) i x (E .copied) le e
 
   show-by : (o : Option ℕ) (i : ℕ) → firstOf (conditions d (Show i)) ≡ o
-      → heard store copy (placeBy o (ownPlace (ownBytes (entry d i)) i (blockPlace store (blockUsed store (last (d .history)) i)))) ≡ sideBy o d (Show i) .0
+      → heard store copy (placeBy o (ownPlace (ownBytes (entry d i)) i (blockPlace store (blockUsed store (last (d .history)) i) (namer (d .history) (last (d .history)) i)))) ≡ sideBy o d (Show i) .0
   show-by (some n) i e = refl
   show-by none i e =
       let l = clear (conditions d (Show i)) e in
@@ -235,8 +236,8 @@ module _ (N : ℕ) (store copy : Bytes) (d : Side) (E : Seen N store copy d) (K 
   show-one : (i : ℕ) → showCall store copy i ≡ sideStep d (Show i) .0
   unfolding showPlace
   show-one i =
-      ap (λ (o : Option ℕ). heard store copy (placeBy o (ownPlace (ownBytes (entry (sideIn store copy) i)) i (blockPlace store (blockUsed store (last (storeHistory store)) i))))) (same-refusal (Show i))
-      ∙ ap₂ (λ (x : Side) (h : History). heard store copy (placeBy (firstOf (conditions d (Show i))) (ownPlace (ownBytes (entry x i)) i (blockPlace store (blockUsed store (last h) i))))) same-side same-history
+      ap (λ (o : Option ℕ). heard store copy (placeBy o (ownPlace (ownBytes (entry (sideIn store copy) i)) i (foundPlace store (last (storeHistory store)) i)))) (same-refusal (Show i))
+      ∙ ap₂ (λ (x : Side) (h : History). heard store copy (placeBy (firstOf (conditions d (Show i))) (ownPlace (ownBytes (entry x i)) i (blockPlace store (blockUsed store (last h) i) (namer h (last h) i))))) same-side same-history
       ∙ show-by (firstOf (conditions d (Show i))) i refl
 
   answer-by : (o : Option ℕ) (c : Call) → answerBy o (doing d c .0) ≡ sideBy o d c .0

@@ -12,7 +12,7 @@ use lib.ListN.{List·getD-append, drop, getD, length, length-append, length-take
 use lib.Seq.{getD-append-seam, getD-take, length-take-le, take-add, take-append-le, take-append-seam, take-length, take-suc, take-take}
 use Rattle.block.proofs.Says.{says-same, true-says}
 use Rattle.block.specs.Lists.{All}
-use Rattle.model.specs.History.{Bytes, Change, Commit, History, Tree, add, applied, change, changeOf, copy, delete, isBytes, last, made, namer, namerFrom, names, newest, noCommit, nothing, present, sheet, tree, treeFrom, tree₀}
+use Rattle.model.specs.History.{Bytes, Change, Commit, History, Tree, add, applied, change, changeOf, commitAt, copy, delete, isBytes, last, made, namer, namerFrom, names, newest, noCommit, nothing, present, sheet, tree, treeFrom, tree₀}
 use Rattle.model.specs.Invariant.{Base, Made, Right, Short, Sound, takes, usedBy}
 use Rattle.model.specs.Machine.{blocksFor}
 use Rattle.laws.proofs.All.{all-drop, all-take}
@@ -29,6 +29,9 @@ has-bytes x (some y) z = ap some (sym (true-says (says-same x y) z))
 pub sheet-grown : (h g : History) (R i : ℕ) → R ≤ last h → sheet (h ++ g) R i ≡ sheet h R i
 unfolding tree
 sheet-grown h g R i le = ap (λ (k : History). getD (treeFrom tree₀ k) i none) (take-append-le R h g le)
+
+pub namer-grown : (h g : History) (R i : ℕ) → R ≤ last h → namer (h ++ g) R i ≡ namer h R i
+namer-grown h g R i le = ap (λ (k : History). namerFrom 0 0 k i) (take-append-le R h g le)
 
 -- each commit has 32 rows
 abbrev pub Wide : Commit → Type 0
@@ -171,6 +174,25 @@ unnamed h b R i s p q n =
 
 pub namer-upTo : (h : History) (R i : ℕ) → R ≤ last h → namer h R i ≤ R
 namer-upTo h R i le = omega (arith, namer-le 0 0 (take R h) i (omega arith), length-take-le R h le)
+
+-- one commit more: it, if it names the sheet
+pub namer-step : (h : History) (R i : ℕ) → R < last h → namer h (suc R) i ≡ cond (names (changeOf (commitAt h (suc R)) i)) (suc R) (namer h R i)
+namer-step h R i lt =
+    let e : suc R - 1 ≡ R = omega arith in
+    let n : 0 + last (take R h) ≡ R = omega (arith, length-take-le R h (omega arith)) in
+    ap (λ (k : History). namerFrom 0 0 k i) (take-suc h R noCommit lt)
+    ∙ namer-append 0 0 (take R h) (getD h R noCommit ∷ []) i
+    ∙ rw (n, e)
+
+-- a sheet that tree R has was named
+pub present-named : (h : History) (R i : ℕ) → Sound h → R ≤ last h → present (sheet h R i) ≡ true → 1 ≤ namer h R i
+present-named h R i s le p = let n : namer h R i ≤ 0 → ⊥ = lacks in omega arith
+  where
+    lacks : namer h R i ≤ 0 → ⊥
+    lacks l =
+        let q : sheet h R i ≡ none = unnamed h 0 R i s (omega arith) le l ∙ sheet-zero h i in
+        let z : _≡_ {A = ℕ} 0 1 = cc (p, ap present q) in
+        omega arith
 
 -- "the last commit naming the sheet up to R is the one up to b": the two trees have the same bytes of it
 pub same-namer : (h : History) (R b i : ℕ) → Sound h → R ≤ last h → b ≤ last h → namer h R i ≡ namer h b i → sheet h R i ≡ sheet h b i

@@ -37,6 +37,6 @@ abbrev pub isDone : Answer → Bool
 isDone (refused n) = false
 isDone done = true
 isDone (revision R) = false
-isDone (bytes x) = false
-isDone (status n) = false
+isDone (bytes x n) = false
+isDone (status s n) = false
 isDone (logged seat stamp m a i R) = false

@@ -38,5 +38,6 @@ pub extern "C" fn measure_status<'a>(
         last,
         seat,
     };
-    entries::status_at(store, copy, v, i)
+    let s = entries::status_at(store, copy, v, i);
+    s.status
 }

@@ -19,7 +19,7 @@ table =
     ∷ case 8  -- 5
     (1 does Add 3 [] says done
     ∷ 1 does Commits 0 everything says revision 1
-    ∷ 1 does Read 1 3 says bytes []
+    ∷ 1 does Read 1 3 says bytes [] 1
     ∷ []) 3
     ∷ case 8  -- 6
     (1 does Add 3 (replicate 480 7) says done
@@ -54,9 +54,9 @@ table =
     ∷ 1 does Commits 7 everything says revision 1
     ∷ 1 does Move 5 6 says done
     ∷ 1 does Commits 8 everything says revision 2
-    ∷ 1 does Read 1 5 says bytes (65 ∷ [])
+    ∷ 1 does Read 1 5 says bytes (65 ∷ []) 1
     ∷ 1 does Read 2 5 says refused 8
-    ∷ 1 does Read 2 6 says bytes (65 ∷ [])
+    ∷ 1 does Read 2 6 says bytes (65 ∷ []) 2
     ∷ []) 4
     ∷ case 32  -- 11
     (1 does Copy 5 5 says refused 8

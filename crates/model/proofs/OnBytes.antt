@@ -53,8 +53,8 @@ refusals =
 pub record OnBytes : Type 0 where
   pub answer : answersOn (freshBuffers 4) script ≡ done ∷ revision 1 ∷ []
   pub store : runOn (freshBuffers 4) script .store ≡ joined fieldsOf stored
-  pub look : looks (joined fieldsOf stored) ≡ bytes (65 ∷ []) ∷ refused 8 ∷ logged 2 7 1 1 0 0 ∷ []
-  pub place : readPlace (joined fieldsOf stored) 1 5 ≡ inStore 528 1
+  pub look : looks (joined fieldsOf stored) ≡ bytes (65 ∷ []) 1 ∷ refused 8 ∷ logged 2 7 1 1 0 0 ∷ []
+  pub place : readPlace (joined fieldsOf stored) 1 5 ≡ inStore 528 1 1
   pub order : refusals ≡ refused 1 ∷ refused 2 ∷ refused 3 ∷ refused 4 ∷ refused 5 ∷ refused 6 ∷ refused 4 ∷ []
 
 pub on-bytes : OnBytes

@@ -13,7 +13,7 @@ use Rattle.model.specs.Blocks.{blank, bytesAt, fieldsOf, label}
 use Rattle.model.specs.Codec.{joined}
 use Rattle.model.specs.Entry.{empty, ownBytes}
 use Rattle.model.specs.Fitting.{fitsStore}
-use Rattle.model.specs.History.{Bytes, Commit, last}
+use Rattle.model.specs.History.{Bytes, Commit, last, namer}
 use Rattle.model.specs.Machine.{Add, Answer, Call, Commits, Copy, Delete, Edit, Log, Move, Read, Revert, Show, Side, Status, Update, bytes, doing, done, entry, refused}
 use Rattle.model.specs.Refusals.{Condition, _when_, conditions, firstOf}
 use Rattle.model.specs.Run.{Turn, asked}
@@ -146,22 +146,34 @@ createCopy copy seat = createBy (firstOf (createCopyConditions copy seat)) copy 
 
 -- ---- looking: no buffer changes
 
--- "answers the refusal, or buffer, place and length"; a place is a byte's number in that buffer
+-- "answers the refusal, or buffer, place and length"; a place is a byte's number in that buffer. W3: of a part of the store also the last commit that names the sheet, up to the
+-- revision that the part is of
 pub data Place : Type 0 where
   noPlace : ℕ → Place
-  inStore inCopy : ℕ → ℕ → Place
+  inStore : ℕ → ℕ → ℕ → Place
+  inCopy : ℕ → ℕ → Place
+
+-- W3's number at each: "the companions of read and of show from the store where they don't refuse"; else none, 0
+abbrev pub numberAt : Place → ℕ
+numberAt (noPlace n) = 0
+numberAt (inStore p m n) = n
+numberAt (inCopy p m) = 0
 
 abbrev pub placeBy : Option ℕ → Place → Place
 placeBy (some n) p = noPlace n
 placeBy none p = p
 
--- the bytes of a content block: from its byte 16
-abbrev pub blockPlace : Bytes → ℕ → Place
-blockPlace store p = inStore (512 * p + 16) (length (bytesAt (storeBlocks store) p))
+-- the bytes of a content block, from its byte 16, with W3's number n
+abbrev pub blockPlace : Bytes → ℕ → ℕ → Place
+blockPlace store p n = inStore (512 * p + 16) (length (bytesAt (storeBlocks store) p)) n
+
+-- "Finding a sheet in tree R": the block that it uses, and the last commit up to R that names it
+abbrev pub foundPlace : Bytes → ℕ → ℕ → Place
+foundPlace store R i = blockPlace store (blockUsed store R i) (namer (storeHistory store) R i)
 
 -- "Read (R, i) hands back the sheet's bytes as a part of the store buffer .. an empty sheet shows the empty part at byte 16 of its block."
 unfoldable pub readPlace : Bytes → ℕ → ℕ → Place
-readPlace store R i = placeBy (storeRefusal store (Read R i)) (blockPlace store (blockUsed store R i))
+readPlace store R i = placeBy (storeRefusal store (Read R i)) (foundPlace store R i)
 
 -- "the seat's own bytes where the entry is normal, added or copied, otherwise the last revision's bytes from the store"
 abbrev pub ownPlace : Option Bytes → ℕ → Place → Place
@@ -171,12 +183,12 @@ ownPlace (some x) i p = inCopy (512 * (1 + i) + 16) (length x)
 unfoldable pub showPlace : Bytes → Bytes → ℕ → Place
 showPlace store copy i =
     placeBy (refusalOf store copy (Show i))
-    (ownPlace (ownBytes (entry (sideIn store copy) i)) i (blockPlace store (blockUsed store (last (storeHistory store)) i)))
+    (ownPlace (ownBytes (entry (sideIn store copy) i)) i (foundPlace store (last (storeHistory store)) i))
 
 -- "A part carries no number: refused, either hands back the empty part at the store buffer's start": where the part starts, and its length
 abbrev pub partOf : Place → ℕ × ℕ
 partOf (noPlace n) = (0, 0)
-partOf (inStore p m) = (p, m)
+partOf (inStore p m n) = (p, m)
 partOf (inCopy p m) = (p, m)
 
 abbrev pub answerBy : Option ℕ → Answer → Answer
@@ -189,12 +201,12 @@ statusCall store copy i = answerBy (refusalOf store copy (Status i)) (doing (sid
 unfoldable pub logCall : Bytes → ℕ → ℕ → Answer
 logCall store R i = answerBy (storeRefusal store (Log R i)) (doing (storeSide store) (Log R i) .0)
 
--- ---- any call, as the machine knows it: of read and show, the bytes that stand at the place
+-- ---- any call, as the machine knows it: of read and show, the bytes that stand at the place, and W3's number
 
 abbrev pub heard : Bytes → Bytes → Place → Answer
 heard store copy (noPlace n) = refused n
-heard store copy (inStore p m) = bytes (take m (drop p store))
-heard store copy (inCopy p m) = bytes (take m (drop p copy))
+heard store copy (inStore p m n) = bytes (take m (drop p store)) (numberAt (inStore p m n))
+heard store copy (inCopy p m) = bytes (take m (drop p copy)) (numberAt (inCopy p m))
 
 -- read, heard: "takes the store"
 abbrev pub readCall : Bytes → ℕ → ℕ → Answer

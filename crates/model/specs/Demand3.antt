@@ -8,15 +8,16 @@ use mathlib.Core.Path.{_≡_}
 use lib.ListN.{getD, length, take}
 use Rattle.model.specs.Calls.{Buffers, Out, answersOn, call, freshBuffers, readCall, runOn}
 use Rattle.model.specs.Entry.{empty, pending}
-use Rattle.model.specs.History.{History, sheet}
+use Rattle.model.specs.History.{History, namer, sheet}
 use Rattle.model.specs.Machine.{Update, asBytes, asIn, chosen, done, fresh}
 use Rattle.model.specs.Run.{AllValid, Turn, accepted, answers, run}
 use Rattle.model.specs.Shows.{Shows}
 use Rattle.model.specs.WorkCopy.{entriesOf}
 
--- reading any sheet at R finds in these buffers exactly the bytes that the first R of these commits leave on an empty tree, or refusal 8
+-- reading any sheet at R finds in these buffers exactly the bytes that the first R of these commits leave on an empty tree, with the last of them that names the sheet (W3), or
+-- refusal 8
 abbrev pub Finds : Buffers → History → ℕ → ℕ → Type 0
-Finds b h R i = readCall (b .store) R i ≡ asBytes (sheet h R i)
+Finds b h R i = readCall (b .store) R i ≡ asBytes (namer h R i) (sheet h R i)
 
 -- the copy that seat k lends
 abbrev pub copyIn : Buffers → ℕ → List ℕ

@@ -90,7 +90,7 @@ abbrev pub namerFrom : ℕ → ℕ → History → ℕ → ℕ
 namerFrom n f [] i = f
 namerFrom n f (c ∷ h) i = namerFrom (suc n) (cond (names (changeOf c i)) (suc n) f) h i
 
--- "the last commit naming the sheet up to R": its number, or 0
+-- "the last commit naming the sheet up to R": its number, or 0. W3: "Finding a sheet in tree R now also gives the number of the last commit up to R that named it, or 0 if none did."
 abbrev pub namer : History → ℕ → ℕ → ℕ
 namer h R i = namerFrom 0 0 (take R h) i
 

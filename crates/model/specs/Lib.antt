@@ -22,3 +22,4 @@ pub mod Demand3
 pub mod Order
 pub mod Ordered
 pub mod SameEdit
+pub mod SetBy

@@ -38,14 +38,14 @@ pub data Call : Type 0 where
   Show Status : ℕ → Call
   Log : ℕ → ℕ → Call
 
--- what a call answers: the number of a refusal; that it is done; a commit's revision; a sheet's bytes; a status; seat, stamp, m, action, source sheet and source
--- revision of a commit
+-- what a call answers: the number of a refusal; that it is done; a commit's revision; a sheet's bytes, and a status, each with the last commit that names the sheet (W3); seat,
+-- stamp, m, action, source sheet and source revision of a commit
 pub data Answer : Type 0 where
   refused : ℕ → Answer
   done : Answer
   revision : ℕ → Answer
-  bytes : Bytes → Answer
-  status : ℕ → Answer
+  bytes : Bytes → ℕ → Answer
+  status : ℕ → ℕ → Answer
   logged : ℕ → ℕ → ℕ → ℕ → ℕ → ℕ → Answer
 
 -- the number, of an answer that is a refusal
@@ -53,8 +53,8 @@ abbrev pub refusal : Answer → Option ℕ
 refusal (refused n) = some n
 refusal done = none
 refusal (revision R) = none
-refusal (bytes x) = none
-refusal (status n) = none
+refusal (bytes x n) = none
+refusal (status s n) = none
 refusal (logged seat stamp m a i R) = none
 
 -- "used blocks U, 1 when fresh; the history .. empty when fresh; .. Fresh entries are empty."
@@ -208,9 +208,15 @@ abbrev pub shown : Option Bytes → Option Bytes → Option Bytes
 shown none x = x
 shown (some y) x = some y
 
-abbrev pub asBytes : Option Bytes → Answer
-asBytes none = refused 8
-asBytes (some x) = bytes x
+-- W3's number beside them: "the companions of read and of show from the store"; the seat's own bytes have none, 0
+abbrev pub shownNamer : Option Bytes → ℕ → ℕ
+shownNamer none n = n
+shownNamer (some y) n = 0
+
+-- what was found, with W3's number: "where they don't refuse"
+abbrev pub asBytes : ℕ → Option Bytes → Answer
+asBytes n none = refused 8
+asBytes n (some x) = bytes x n
 
 -- "add (1), change (2), delete (3), copy (4)", 0 for nothing
 abbrev pub number : Change → ℕ
@@ -232,6 +238,7 @@ source (copy s r x) = (s, r)
 abbrev pub logOf : Commit → ℕ → Answer
 logOf c i = logged (c .seat) (c .stamp) (total count (c .changes)) (number (changeOf c i)) (source (changeOf c i) .0) (source (changeOf c i) .1)
 
+-- W3: read gives the number at its R, show from the store and status that of the last tree
 abbrev pub doing : Side → Call → Answer × Side
 doing d (Add i x) = (done, withEntry d i (added x))
 doing d (Edit i x) = (done, withEntry d i (edited x (entry d i)))
@@ -241,7 +248,8 @@ doing d (Move i j) = (done, withEntries d (set (set (d .entries) j (copyOf i (en
 doing d (Commits stamp mask) = (revision (suc (last (d .history))), committing d stamp mask)
 doing d (Update mask R) = (done, withEntries d (updated (d .history) mask R (d .entries)))
 doing d (Revert mask) = (done, withEntries d (reverted (d .history) mask (d .entries)))
-doing d (Read R i) = (asBytes (sheet (d .history) R i), d)
-doing d (Show i) = (asBytes (shown (ownBytes (entry d i)) (newest (d .history) i)), d)
-doing d (Status i) = (status (statusOf (d .history) i (entry d i)), d)
+doing d (Read R i) = (asBytes (namer (d .history) R i) (sheet (d .history) R i), d)
+doing d (Show i) =
+    (asBytes (shownNamer (ownBytes (entry d i)) (namer (d .history) (last (d .history)) i)) (shown (ownBytes (entry d i)) (newest (d .history) i)), d)
+doing d (Status i) = (status (statusOf (d .history) i (entry d i)) (namer (d .history) (last (d .history)) i), d)
 doing d (Log R i) = (logOf (commitAt (d .history) R) i, d)

@@ -11,7 +11,7 @@ use Rattle.block.specs.Lists.{All}
 use Rattle.model.specs.Blocks.{Block, Line, blank, commit, content}
 use Rattle.model.specs.Calls.{Buffers, commitCall, freshBuffers, readCall, runOn, sideIn, storeConditions}
 use Rattle.model.specs.Demand2.{LaidStore}
-use Rattle.model.specs.History.{Bytes, Commit, History, last, sheet}
+use Rattle.model.specs.History.{Bytes, Commit, History, last, namer, sheet}
 use Rattle.model.specs.Invariant.{Sound, usedBy}
 use Rattle.model.specs.Machine.{asBytes, fresh, newCommit, revision}
 use Rattle.model.specs.Order.{InOrder, continued, storeBytes}
@@ -35,10 +35,10 @@ pub record Appends (store store′ : Bytes) (c : Commit) (R : ℕ) : Type 0 wher
   -- so every byte is determined
   pub bytes : store′ ≡ continued store (c ∷ [])
 
--- a store is accepted, and reading any sheet at R finds in it the bytes of tree R, or refusal 8
+-- a store is accepted, and reading any sheet at R finds in it the bytes of tree R, with the last commit that names the sheet, or refusal 8
 pub record ReadAs (store : Bytes) (h : History) : Type 0 where
   pub accepted : firstOf (storeConditions store) ≡ none
-  pub found : (R i : ℕ) → R ≤ last h → i ≤ 31 → readCall store R i ≡ asBytes (sheet h R i)
+  pub found : (R i : ℕ) → R ≤ last h → i ≤ 31 → readCall store R i ≡ asBytes (namer h R i) (sheet h R i)
 
 pub record Ordered : Type 0 where
   -- a commit that is done, on any buffers: the store may be written in another order

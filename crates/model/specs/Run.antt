@@ -58,8 +58,8 @@ abbrev pub isRevision : Answer → Bool
 isRevision (refused n) = false
 isRevision done = false
 isRevision (revision R) = true
-isRevision (bytes x) = false
-isRevision (status n) = false
+isRevision (bytes x n) = false
+isRevision (status s n) = false
 isRevision (logged seat stamp m a i R) = false
 
 -- "An accepted commit is one that the machine answers with a revision": those of a list of calls, the first one first

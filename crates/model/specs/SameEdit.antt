@@ -11,7 +11,7 @@ use mathlib.Core.Path.{_≡_}
 use lib.ListN.{getD}
 use Rattle.model.specs.Calls.{Out, commitCall, statusCall, updateCall}
 use Rattle.model.specs.Entry.{Entry, added, copied, deleted, empty, modified, normal, ownBytes, pending}
-use Rattle.model.specs.History.{Bytes, History, isBytes, last, present, sheet}
+use Rattle.model.specs.History.{Bytes, History, isBytes, last, namer, present, sheet}
 use Rattle.model.specs.Machine.{asIn, chosen, done, refused, sameNamer, status}
 use Rattle.model.specs.Shows.{Accepted}
 use Rattle.model.specs.Store.{storeHistory}
@@ -78,7 +78,7 @@ pub record Agreeing (store copy : Bytes) (h : History) (es : List Entry) : Type 
   pub updates : (mask R : ℕ) → Updates h es mask R (updateCall store copy mask R)
   -- commit and status are as they were: an entry that agrees with the last tree is out of date (11), and where it is normal it needs merge (4)
   pub stale : (stamp mask i : ℕ) → i < 32 → chosen mask i ≡ true → agrees h (last h) i (getD es i empty) ≡ true → commitCall store copy stamp mask .says ≡ refused 11
-  pub needsMerge : (i b : ℕ) (x : Bytes) → i < 32 → getD es i empty ≡ normal b x → agrees h (last h) i (normal b x) ≡ true → statusCall store copy i ≡ status 4
+  pub needsMerge : (i b : ℕ) (x : Bytes) → i < 32 → getD es i empty ≡ normal b x → agrees h (last h) i (normal b x) ≡ true → statusCall store copy i ≡ status 4 (namer h (last h) i)
   -- where every chosen entry agrees with tree R or is not pending, the update is done, and then nothing chosen is pending (10)
   pub settles : (stamp mask R : ℕ) → (mask ≡ 0 → ⊥) → R ≤ last h → AllAgree h mask R es
       → (updateCall store copy mask R .says ≡ done) × (commitCall (updateCall store copy mask R .store) (updateCall store copy mask R .copy) stamp mask .says ≡ refused 10)

@@ -67,20 +67,20 @@ sourceRevision Change = 0
 sourceRevision Delete = 0
 sourceRevision (Copy s) = s .revision
 
--- the machine's answer
+-- the machine's answer; of status both numbers, document 01's and W3's
 abbrev pub answerOf : TheAnswer → Answer
 answerOf (Refused r) = refused (numberOf r)
 answerOf Done = done
 answerOf (Revision R) = revision R
-answerOf (Status n) = status n
+answerOf (Status s) = status (s .status) (s .revision)
 answerOf (Logged l) = logged (l .seat) (l .stamp) (l .changes) (actionNumber (l .action)) (sourceSheet (l .action)) (sourceRevision (l .action))
 
 -- an answer of create, beside the buffer that it makes
 abbrev pub createdAs : TheAnswer → Bytes → Created
 createdAs r b = record { says = answerOf r; buffer = b }
 
--- the place of the meanings
+-- the place of the meanings; W3's number is with a part of the store alone (`Calls.numberAt`)
 abbrev pub placeOf : ThePlace → Place
 placeOf (NoPlace r) = noPlace (numberOf r)
-placeOf (InStore p) = inStore (p .start) (p .len)
+placeOf (InStore p n) = inStore (p .start) (p .len) n
 placeOf (InCopy p) = inCopy (p .start) (p .len)

@@ -55,12 +55,18 @@ pub struct LogEntry {
     pub action: Action,
 }
 
+// What status tells of a sheet: 0 to 8, and the last commit that names the sheet, 0 for none.
+pub struct Standing {
+    pub status: u32,
+    pub revision: u32,
+}
+
 // The answer of a call.
 pub enum Answer {
     Refused(Refusal),
     Done,
     Revision(u32),
-    Status(u32),
+    Status(Standing),
     Logged(LogEntry),
 }
 
@@ -70,9 +76,10 @@ pub struct Span {
     pub len: usize,
 }
 
-// The answer of the companions of read and show: "the refusal, or buffer, place and length".
+// The answer of the companions of read and show: "the refusal, or buffer, place and length"; of a part of the store also the last commit that names the sheet, up to the
+// revision read.
 pub enum Place {
     Refused(Refusal),
-    InStore(Span),
+    InStore(Span, u32),
     InCopy(Span),
 }

@@ -45,14 +45,14 @@ pub record AnotherOrder : Type 0 where
   pub accepted : firstOf (storeConditions store) ≡ none
   pub read : map (reads store) (0 ∷ 1 ∷ [])
       ≡ (absent ∷ absent ∷ absent ∷ absent ∷ absent ∷ absent ∷ [])
-      ∷ (bytes (65 ∷ []) ∷ absent ∷ bytes (66 ∷ []) ∷ absent ∷ bytes (67 ∷ []) ∷ absent ∷ []) ∷ []
+      ∷ (bytes (65 ∷ []) 1 ∷ absent ∷ bytes (66 ∷ []) 1 ∷ absent ∷ bytes (67 ∷ []) 1 ∷ absent ∷ []) ∷ []
   pub answer : commitCall store copy 8 everything .says ≡ revision 2
   pub committed : commitCall store copy 8 everything .store ≡ grown
   pub kept : take 2_560 grown ≡ take 2_560 store
   pub read-after : map (reads grown) (0 ∷ 1 ∷ 2 ∷ [])
       ≡ (absent ∷ absent ∷ absent ∷ absent ∷ absent ∷ absent ∷ [])
-      ∷ (bytes (65 ∷ []) ∷ absent ∷ bytes (66 ∷ []) ∷ absent ∷ bytes (67 ∷ []) ∷ absent ∷ [])
-      ∷ (bytes (68 ∷ []) ∷ bytes (66 ∷ []) ∷ absent ∷ bytes (69 ∷ []) ∷ bytes (67 ∷ []) ∷ bytes [] ∷ []) ∷ []
+      ∷ (bytes (65 ∷ []) 1 ∷ absent ∷ bytes (66 ∷ []) 1 ∷ absent ∷ bytes (67 ∷ []) 1 ∷ absent ∷ [])
+      ∷ (bytes (68 ∷ []) 2 ∷ bytes (66 ∷ []) 2 ∷ absent ∷ bytes (69 ∷ []) 2 ∷ bytes (67 ∷ []) 1 ∷ bytes [] 2 ∷ []) ∷ []
 
 pub another-order : AnotherOrder
 unfolding tree bytesAt next means ok okFrom readAll readFrom stated noChanges rule laid padded checksOf encode sealed shaped parse checked lawful blocksOf historyOf tablesOf tablesAfter parseCopyBlock copyBytes copyBlocksOf copyOk seatOf entriesOf refusalOf storeRefusal changeCall readPlace

@@ -17,7 +17,7 @@ use Rattle.laws.proofs.Conditions.{clear}
 use Rattle.laws.proofs.Invariant.{kept-fresh, kept-step}
 use Rattle.laws.proofs.Rows.{or-false}
 use Rattle.laws.proofs.Trees.{Small, small-tree}
-use Rattle.model.specs.History.{Bytes, last, sheet}
+use Rattle.model.specs.History.{Bytes, last, namer, sheet}
 use Rattle.model.specs.Invariant.{Kept}
 use Rattle.model.specs.Machine.{Add, Call, Commits, Copy, Delete, Edit, Log, Move, Read, Revert, Show, State, Status, Update, asBytes, bytes, fresh, sideOf}
 use Rattle.model.specs.Refusals.{conditions, firstOf, noSheet, tooLate}
@@ -184,9 +184,9 @@ line-room line = subst (λ (n : ℕ). Roomy n (lineTurn line)) (sizes-words line
 number-text : (a b c n : ℕ) → length (a ∷ b ∷ c ∷ (decimalOf n ++ (10 ∷ []))) ≤ 14
 number-text a b c n = simp length-append (omega (arith, length-decimal 10 n))
 
-sheet-text : (o : Option Bytes) → Small o → length (textOf (asBytes o)) ≤ 965
-sheet-text none p = omega (arith, number-text 110 111 32 8)
-sheet-text (some x) p = simp length-append (omega (arith, length-hex x, p .size))
+sheet-text : (n : ℕ) (o : Option Bytes) → Small o → length (textOf (asBytes n o)) ≤ 965
+sheet-text n none p = omega (arith, number-text 110 111 32 8)
+sheet-text n (some x) p = simp length-append (omega (arith, length-hex x, p .size))
 
 answer-room : (s : State) (k n : ℕ) (c : Call) (o : Option ℕ) → firstOf (conditions (sideOf s k) c) ≡ o → Kept s → 1 ≤ n → Room n c → length (textOf (stepBy o s k c .0)) ≤ 121 * n
 answer-room s k n c (some m) e K h r = omega (arith, number-text 110 111 32 m)
@@ -201,7 +201,7 @@ answer-room s k n (Revert mask) none e K h r = omega arith
 answer-room s k n (Read R i) none e K h r =
     let l = clear (conditions (sideOf s k) (Read R i)) e in
     let le : R ≤ last (s .history) = ltb-false (last (s .history)) R (or-false (noSheet i) (tooLate (s .history) R) (l .0) .1) in
-    omega (arith, sheet-text (sheet (s .history) R i) (small-tree (s .history) R i (K .sound) le))
+    omega (arith, sheet-text (namer (s .history) R i) (sheet (s .history) R i) (small-tree (s .history) R i (K .sound) le))
 answer-room s k n (Show i) none e K h r = absurd r
 answer-room s k n (Status i) none e K h r = omega arith
 answer-room s k n (Log R i) none e K h r = omega arith

@@ -20,13 +20,17 @@ ok = 111 ∷ 107 ∷ 10 ∷ []
 abbrev pub unknown : Bytes
 unknown = 63 ∷ 10 ∷ []
 
--- "Each line prints `ok`, or `no` and the number; `put` adds the revision, `get` the HEX." No line asks for a status or for the log.
+-- a sheet's bytes, as `get` prints them
+abbrev pub sheetText : Bytes → Bytes
+sheetText x = 111 ∷ 107 ∷ 32 ∷ (hexText x ++ (10 ∷ []))
+
+-- "Each line prints `ok`, or `no` and the number; `put` adds the revision, `get` the HEX." No line asks for a status or for the log, and none prints W3's number.
 abbrev pub textOf : Answer → Bytes
 textOf (refused n) = 110 ∷ 111 ∷ 32 ∷ (decimalOf n ++ (10 ∷ []))
 textOf done = ok
 textOf (revision R) = 111 ∷ 107 ∷ 32 ∷ (decimalOf R ++ (10 ∷ []))
-textOf (bytes x) = 111 ∷ 107 ∷ 32 ∷ (hexText x ++ (10 ∷ []))
-textOf (status n) = ok
+textOf (bytes x n) = sheetText x
+textOf (status s n) = ok
 textOf (logged seat stamp m a i R) = ok
 
 -- one line: what it prints, and the machine afterwards

@@ -6,11 +6,10 @@ ghost use lib.ListN.{length, take};
 ghost use Rattle.block.specs.Write.{written};
 ghost use Rattle.command.specs.Command.{CallFits, callIn, lineTurn, turn as turnOf};
 ghost use Rattle.model.specs.Calls.{afterTurn, call as callOf, out as outOf, readCall, turnOn};
-ghost use Rattle.model.specs.Machine.{bytes as bytesOf};
 ghost use Rattle.model.specs.Types.{answerOf};
 ghost use Rattle.text.specs.Text.{decimalOf, lines};
 ghost use Rattle.program.specs.Buffers.{answeredOn, pool, transcriptOn};
-ghost use Rattle.program.specs.Output.{output, textOf};
+ghost use Rattle.program.specs.Output.{output, sheetText, textOf};
 use command::Call;
 use command::Line;
 use model::Answer;
@@ -44,8 +43,8 @@ fn say_number(out: &mut [u8], at: usize, word: &[u8], n: u32) -> usize
 // `ok` and bytes.
 fn say_bytes(out: &mut [u8], at: usize, s: &[u8]) -> usize
     requires { ⌜ at + 2 * length (now s) ≤ 4_100_000_000 ⌝ }
-    ensures { λ r. ⌜ r ≡ length (textOf (bytesOf (now (s .entry)))) ⌝ }
-    ensures { λ _. ⌜ now (out .exit) ≡ written at (textOf (bytesOf (now (s .entry)))) (now (out .entry)) ⌝ }
+    ensures { λ r. ⌜ r ≡ length (sheetText (now (s .entry))) ⌝ }
+    ensures { λ _. ⌜ now (out .exit) ≡ written at (sheetText (now (s .entry))) (now (out .entry)) ⌝ }
     ensures { λ r. ⌜ r ≤ 2 * length (now (s .entry)) + 5 ⌝ }
 {
     block::put_bytes(out, at, b"ok ");
@@ -89,7 +88,7 @@ fn get(out: &mut [u8], at: usize, store: &[u8], revision: u32, sheet: u32) -> us
             let n = engine::number(k);
             say_number(out, at, b"no ", n)
         }
-        Place::InStore(p) => {
+        Place::InStore(p, _) => {
             let a = p.start;
             let e = a + p.len;
             say_bytes(out, at, &store[a..e])

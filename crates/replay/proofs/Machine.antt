@@ -70,8 +70,8 @@ unfolding recordOf zeros
 length-record (refused n) = simp (length-set, length-replicate)
 length-record done = length-replicate {A = ℕ} 512 0
 length-record (revision R) = simp (length-set, length-replicate)
-length-record (bytes x) = length-written 32 x _ ∙ simp (length-set, length-replicate)
-length-record (status n) = simp (length-set, length-replicate)
+length-record (bytes x n) = length-written 32 x _ ∙ simp (length-set, length-replicate)
+length-record (status s n) = simp (length-set, length-replicate)
 length-record (logged seat stamp m a i R) = simp (length-set, length-replicate)
 
 -- the buffers of a desk

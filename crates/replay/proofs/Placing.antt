@@ -37,8 +37,8 @@ module _ (store copy : Bytes) {p : Place} where
   pub none-record : {k : Refusal} → p ≡ Refused k → {l t : Bytes} {n : ℕ} → l ≡ zeros → n ≡ numberOf k → t ≡ withFour l 0 n → t ≡ recordOf (told store copy (At p))
   none-record {k} e z n q = at-place e (refused-record z k n q)
 
-  pub stored-record : {s : Span} → p ≡ InStore s → {t : Bytes} → t ≡ recordOf (bytes (take (s .start + s .len - s .start) (drop (s .start) store))) → t ≡ recordOf (told store copy (At p))
-  stored-record {s} e q = at-place e (q ∙ ap (λ (n : ℕ). recordOf (bytes (take n (drop (s .start) store)))) (add-sub-cancel-left (s .start) (s .len)))
+  pub stored-record : {s : Span} {v : ℕ} → p ≡ InStore s v → {t : Bytes} → t ≡ recordOf (bytes (take (s .start + s .len - s .start) (drop (s .start) store)) v) → t ≡ recordOf (told store copy (At p))
+  stored-record {s} {v} e q = at-place e (q ∙ ap (λ (n : ℕ). recordOf (bytes (take n (drop (s .start) store)) v)) (add-sub-cancel-left (s .start) (s .len)))
 
-  pub copied-record : {s : Span} → p ≡ InCopy s → {t : Bytes} → t ≡ recordOf (bytes (take (s .start + s .len - s .start) (drop (s .start) copy))) → t ≡ recordOf (told store copy (At p))
-  copied-record {s} e q = at-place e (q ∙ ap (λ (n : ℕ). recordOf (bytes (take n (drop (s .start) copy)))) (add-sub-cancel-left (s .start) (s .len)))
+  pub copied-record : {s : Span} → p ≡ InCopy s → {t : Bytes} → t ≡ recordOf (bytes (take (s .start + s .len - s .start) (drop (s .start) copy)) 0) → t ≡ recordOf (told store copy (At p))
+  copied-record {s} e q = at-place e (q ∙ ap (λ (n : ℕ). recordOf (bytes (take n (drop (s .start) copy)) 0)) (add-sub-cancel-left (s .start) (s .len)))

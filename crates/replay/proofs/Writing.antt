@@ -36,13 +36,13 @@ module _ {l : Bytes} (z : l ≡ zeros) where
   unfolding recordOf
   revision-record R e = e ∙ ap (λ (x : Bytes). withFour x 4 R) z
 
-  pub status-record : (n : ℕ) {t : Bytes} → t ≡ withFour l 4 n → t ≡ recordOf (status n)
+  pub status-record : (s n : ℕ) {t u : Bytes} → t ≡ withFour l 4 s → u ≡ withFour t 8 n → u ≡ recordOf (status s n)
   unfolding recordOf
-  status-record n e = e ∙ ap (λ (x : Bytes). withFour x 4 n) z
+  status-record s n p e = e ∙ ap (λ (y : Bytes). withFour y 8 n) (p ∙ ap (λ (y : Bytes). withFour y 4 s) z)
 
-  pub bytes-record : (x : Bytes) {t u : Bytes} → t ≡ withFour l 28 (length x) → u ≡ written 32 x t → u ≡ recordOf (bytes x)
+  pub bytes-record : (x : Bytes) (n : ℕ) {t u w : Bytes} → t ≡ withFour l 8 n → u ≡ withFour t 28 (length x) → w ≡ written 32 x u → w ≡ recordOf (bytes x n)
   unfolding recordOf
-  bytes-record x p e = e ∙ ap (written 32 x) (p ∙ ap (λ (y : Bytes). withFour y 28 (length x)) z)
+  bytes-record x n p q e = e ∙ ap (written 32 x) (q ∙ ap (λ (y : Bytes). withFour y 28 (length x)) (p ∙ ap (λ (y : Bytes). withFour y 8 n) z))
 
   pub log-record : (g : LogEntry) {a s r : ℕ} {t1 t2 t3 t4 t5 t6 : Bytes} → a ≡ actionNumber (g .action) → s ≡ sourceSheet (g .action) → r ≡ sourceRevision (g .action)
       → t1 ≡ withFour l 4 (g .seat) → t2 ≡ withFour t1 8 (g .stamp) → t3 ≡ withFour t2 12 (g .changes) → t4 ≡ withFour t3 16 a → t5 ≡ withFour t4 20 s → t6 ≡ withFour t5 24 r

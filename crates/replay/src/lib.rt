@@ -8,7 +8,7 @@ ghost use Rattle.inner.specs.declared.Reply.the-variants.{At};
 ghost use Rattle.model.specs.Machine.{bytes as shown};
 ghost use Rattle.model.specs.Refusals.{firstOf};
 ghost use Rattle.model.specs.Types.{answerOf};
-ghost use Rattle.model.specs.declared.Answer.the-variants.{Logged};
+ghost use Rattle.model.specs.declared.Answer.the-variants.{Logged, Status};
 ghost use Rattle.replay.specs.Desk.{desk, ranFrom};
 ghost use Rattle.replay.specs.Faults.{Checks, faultOf};
 ghost use Rattle.replay.specs.Records.{recordOf, zeros};
@@ -25,6 +25,7 @@ use model::Answer;
 use model::LogEntry;
 use model::Place;
 use model::Refusal;
+use model::Standing;
 use store::Header;
 use store::Opened;
 
@@ -130,6 +131,15 @@ fn put_log(rec: &mut [u8], entry: LogEntry)
     block::put32(rec, 24, engine::source_revision(action));
 }
 
+// The record of a status, in zeros.
+fn put_standing(rec: &mut [u8], standing: Standing)
+    requires { ⌜ now rec ≡ zeros ⌝ }
+    ensures { λ _. ⌜ now (rec .exit) ≡ recordOf (answerOf (Status standing)) ⌝ }
+{
+    block::put32(rec, 4, standing.status);
+    block::put32(rec, 8, standing.revision);
+}
+
 // The record of an answer, in zeros.
 fn put_answer(rec: &mut [u8], answer: Answer)
     requires { ⌜ now rec ≡ zeros ⌝ }
@@ -139,16 +149,17 @@ fn put_answer(rec: &mut [u8], answer: Answer)
         Answer::Refused(k) => block::put32(rec, 0, engine::number(k)),
         Answer::Done => {}
         Answer::Revision(n) => block::put32(rec, 4, n),
-        Answer::Status(n) => block::put32(rec, 4, n),
+        Answer::Status(standing) => put_standing(rec, standing),
         Answer::Logged(entry) => put_log(rec, entry),
     }
 }
 
-// The record of bytes, in zeros.
-fn put_part(rec: &mut [u8], bytes: &[u8])
+// The record of bytes, in zeros, with the last commit that names their sheet; 0 for none.
+fn put_part(rec: &mut [u8], bytes: &[u8], revision: u32)
     requires { ⌜ (now rec ≡ zeros) × (length (now bytes) < 4_294_967_296) ⌝ }
-    ensures { λ _. ⌜ now (rec .exit) ≡ recordOf (shown (now (bytes .entry))) ⌝ }
+    ensures { λ _. ⌜ now (rec .exit) ≡ recordOf (shown (now (bytes .entry)) revision) ⌝ }
 {
+    block::put32(rec, 8, revision);
     block::put32(rec, 28, bytes.len() as u32);
     block::put_bytes(rec, 32, bytes);
 }
@@ -160,15 +171,15 @@ fn put_place<'a>(rec: &mut [u8], store: &'a [u8], copy: &'a [u8], place: Place)
 {
     match place {
         Place::Refused(k) => block::put32(rec, 0, engine::number(k)),
-        Place::InStore(p) => {
+        Place::InStore(p, revision) => {
             let a = p.start;
             let e = a + p.len;
-            put_part(rec, &store[a..e]);
+            put_part(rec, &store[a..e], revision);
         }
         Place::InCopy(p) => {
             let a = p.start;
             let e = a + p.len;
-            put_part(rec, &copy[a..e]);
+            put_part(rec, &copy[a..e], 0);
         }
     }
 }

@@ -19,7 +19,7 @@ ghost use Rattle.search.specs.Find.{Accepted, Bound, Spanned, back, foun
 // What the last commit that names a sheet says of it: the block that the sheet uses since, 0 for a delete, and the commit's revision. Both are 0 where none names it.
 pub struct Found {
     pub block: usize,
-    pub revision: usize,
+    pub revision: u32,
 }
 
 // The first block after commit r, or after the label where r is 0: the interval is halved, since the revisions that blocks state rise.
@@ -60,7 +60,7 @@ fn find(store: &[u8], n: usize, used: usize, end: usize, i: usize) -> Found
         if shape::kind(b) != 3 {
             continue;
         }
-        let revision = shape::two_at(b, 4) as usize;
+        let revision = shape::two_at(b, 4);
         let m = shape::two_at(b, 2) as usize;
         let mut j: usize = 0;
         'changes: while j < m {

@@ -1,12 +1,13 @@
 -- The structs of src/lib.rt, from the answers and places of the meanings: a refusal's number, or 0 and the call's numbers. What a struct has no case for is zero.
 -- Assumes nothing.
 use Prim.Native.Nat.{ℕ}
-use Rattle.model.specs.Calls.{Out, Created, Place, inCopy, inStore, noPlace}
+use Rattle.model.specs.Calls.{Out, Created, Place, inCopy, inStore, noPlace, numberAt}
 use Rattle.model.specs.History.{Bytes}
 use Rattle.model.specs.Machine.{Answer, bytes, done, logged, refused, revision, status}
 use Rattle.sheetstore.specs.declared.SheetsAnswer.{SheetsAnswer}
 use Rattle.sheetstore.specs.declared.SheetsLog.{SheetsLog}
 use Rattle.sheetstore.specs.declared.SheetsPart.{SheetsPart}
+use Rattle.sheetstore.specs.declared.SheetsStanding.{SheetsStanding}
 
 abbrev pub valued : ℕ → ℕ → SheetsAnswer
 valued n v = record { refusal = n; value = v }
@@ -15,8 +16,8 @@ abbrev pub answerNumbers : Answer → SheetsAnswer
 answerNumbers (refused n) = valued n 0
 answerNumbers done = valued 0 0
 answerNumbers (revision R) = valued 0 R
-answerNumbers (bytes x) = valued 0 0
-answerNumbers (status n) = valued 0 n
+answerNumbers (bytes x n) = valued 0 0
+answerNumbers (status s n) = valued 0 0
 answerNumbers (logged seat stamp m a s R) = valued 0 0
 
 -- an answer beside the buffer that the call leaves
@@ -46,11 +47,23 @@ both r s c = record { numbers = r; store = s; copy = c }
 abbrev pub bothNumbers : Out → Both
 bothNumbers o = both (answerNumbers (o .says)) (o .store) (o .copy)
 
--- buffer 0 is the store, 1 the working copy
+-- buffer 0 is the store, 1 the working copy; then W3's number
 abbrev pub partNumbers : Place → SheetsPart
-partNumbers (noPlace n) = record { refusal = n; buffer = 0; start = 0; len = 0 }
-partNumbers (inStore p m) = record { refusal = 0; buffer = 0; start = p; len = m }
-partNumbers (inCopy p m) = record { refusal = 0; buffer = 1; start = p; len = m }
+partNumbers (noPlace n) = record { refusal = n; buffer = 0; start = 0; len = 0; revision = numberAt (noPlace n) }
+partNumbers (inStore p m v) = record { refusal = 0; buffer = 0; start = p; len = m; revision = numberAt (inStore p m v) }
+partNumbers (inCopy p m) = record { refusal = 0; buffer = 1; start = p; len = m; revision = numberAt (inCopy p m) }
+
+-- document 01's status and W3's number
+abbrev pub noStanding : ℕ → SheetsStanding
+noStanding n = record { refusal = n; status = 0; revision = 0 }
+
+abbrev pub standingNumbers : Answer → SheetsStanding
+standingNumbers (refused n) = noStanding n
+standingNumbers done = noStanding 0
+standingNumbers (revision R) = noStanding 0
+standingNumbers (bytes x n) = noStanding 0
+standingNumbers (status s n) = record { refusal = 0; status = s; revision = n }
+standingNumbers (logged seat stamp m a s R) = noStanding 0
 
 abbrev pub noLog : ℕ → SheetsLog
 noLog n = record { refusal = n; seat = 0; stamp = 0; changes = 0; action = 0; «source_sheet» = 0; «source_revision» = 0 }
@@ -59,6 +72,6 @@ abbrev pub logNumbers : Answer → SheetsLog
 logNumbers (refused n) = noLog n
 logNumbers done = noLog 0
 logNumbers (revision R) = noLog 0
-logNumbers (bytes x) = noLog 0
-logNumbers (status n) = noLog 0
+logNumbers (bytes x n) = noLog 0
+logNumbers (status s n) = noLog 0
 logNumbers (logged seat stamp m a s R) = record { refusal = 0; seat = seat; stamp = stamp; changes = m; action = a; «source_sheet» = s; «source_revision» = R }

@@ -7,23 +7,32 @@ ghost use mathlib.Core.Path.{_≡_};
 ghost use Rattle.model.specs.Calls.{addCall, commitCall, copyCall, createCopy, createStore, deleteCall, editCall, logCall, moveCall, readPlace, revertCall, showPlace, statusCall, updateCall};
 ghost use Rattle.model.specs.Types.{answerOf, placeOf};
 ghost use Rattle.model.specs.declared.Answer.the-variants.{Logged};
-ghost use Rattle.sheetstore.specs.Numbers.{answerNumbers, both, bothNumbers, copyNumbers, left, leftNumbers, logNumbers, noLog, partNumbers};
+ghost use Rattle.sheetstore.specs.Numbers.{answerNumbers, both, bothNumbers, copyNumbers, left, leftNumbers, logNumbers, noLog, noStanding, partNumbers, standingNumbers};
 ghost use Rattle.sheetstore.specs.Replay.{ReplayNumbers};
 
-// A refusal's number, or 0 and the revision or status, if the call answers one.
+// A refusal's number, or 0 and the revision, if the call answers one.
 #[repr(C)]
 pub struct SheetsAnswer {
     pub refusal: u32,
     pub value: u32,
 }
 
-// A refusal's number, or 0 and a part: of the store (buffer 0) or of the working copy (buffer 1), its first byte and its length.
+// A refusal's number, or 0 and a part: of the store (buffer 0) or of the working copy (buffer 1), its first byte and its length; of the store, the last commit that names the sheet.
 #[repr(C)]
 pub struct SheetsPart {
     pub refusal: u32,
     pub buffer: u32,
     pub start: usize,
     pub len: usize,
+    pub revision: u32,
+}
+
+// A refusal's number, or 0 and what status tells: 0 to 8, and the last commit that names the sheet, 0 for none.
+#[repr(C)]
+pub struct SheetsStanding {
+    pub refusal: u32,
+    pub status: u32,
+    pub revision: u32,
 }
 
 // A refusal's number, or 0 and what log tells: of a commit its seat, stamp and number of changes; of the sheet the action, 0 for nothing, and the source of a copy.
@@ -52,7 +61,10 @@ fn answer_numbers(answer: Answer) -> SheetsAnswer
             value: 0,
         },
         Answer::Revision(value) => SheetsAnswer { refusal: 0, value },
-        Answer::Status(value) => SheetsAnswer { refusal: 0, value },
+        Answer::Status(_) => SheetsAnswer {
+            refusal: 0,
+            value: 0,
+        },
         Answer::Logged(_) => SheetsAnswer {
             refusal: 0,
             value: 0,
@@ -72,20 +84,51 @@ fn part_numbers(place: Place) -> SheetsPart
                 buffer: 0,
                 start: 0,
                 len: 0,
+                revision: 0,
             }
         }
-        Place::InStore(p) => SheetsPart {
+        Place::InStore(p, revision) => SheetsPart {
             refusal: 0,
             buffer: 0,
             start: p.start,
             len: p.len,
+            revision,
         },
         Place::InCopy(p) => SheetsPart {
             refusal: 0,
             buffer: 1,
             start: p.start,
             len: p.len,
+            revision: 0,
         },
+    }
+}
+
+// No status: a refusal's number and zeros.
+fn no_standing(refusal: u32) -> SheetsStanding
+    ensures { λ r. ⌜ r ≡ noStanding refusal ⌝ }
+{
+    SheetsStanding {
+        refusal,
+        status: 0,
+        revision: 0,
+    }
+}
+
+// The numbers of an answer of status.
+fn standing_numbers(answer: Answer) -> SheetsStanding
+    ensures { λ r. ⌜ r ≡ standingNumbers (answerOf answer) ⌝ }
+{
+    match answer {
+        Answer::Refused(k) => no_standing(engine::number(k)),
+        Answer::Done => no_standing(0),
+        Answer::Revision(_) => no_standing(0),
+        Answer::Status(s) => SheetsStanding {
+            refusal: 0,
+            status: s.status,
+            revision: s.revision,
+        },
+        Answer::Logged(_) => no_standing(0),
     }
 }
 
@@ -149,7 +192,7 @@ pub extern "C" fn sheets_create_copy(copy: &mut [u8], seat: u32) -> SheetsAnswer
     answer_numbers(engine::create_copy(copy, seat))
 }
 
-// Where the bytes of a sheet of a revision stand in the store.
+// Where the bytes of a sheet of a revision stand in the store, and the last commit up to it that names the sheet.
 #[no_mangle]
 pub extern "C" fn sheets_read(store: &[u8], revision: u32, sheet: u32) -> SheetsPart
     ensures { λ r. ⌜ r ≡ partNumbers (readPlace (now (store .entry)) revision sheet) ⌝ }
@@ -257,12 +300,12 @@ pub extern "C" fn sheets_show<'a>(store: &'a [u8], copy: &'a [u8], sheet: u32) -
     part_numbers(engine::show_place(store, copy, sheet))
 }
 
-// The status of a sheet's entry.
+// The status of a sheet's entry, and the last commit that names the sheet.
 #[no_mangle]
-pub extern "C" fn sheets_status<'a>(store: &'a [u8], copy: &'a [u8], sheet: u32) -> SheetsAnswer
-    ensures { λ r. ⌜ r ≡ answerNumbers (statusCall (now (store .entry)) (now (copy .entry)) sheet) ⌝ }
+pub extern "C" fn sheets_status<'a>(store: &'a [u8], copy: &'a [u8], sheet: u32) -> SheetsStanding
+    ensures { λ r. ⌜ r ≡ standingNumbers (statusCall (now (store .entry)) (now (copy .entry)) sheet) ⌝ }
 {
-    answer_numbers(engine::status(store, copy, sheet))
+    standing_numbers(engine::status(store, copy, sheet))
 }
 
 // The calls of a script on a store and four working copies side by side, and a record for each answer.

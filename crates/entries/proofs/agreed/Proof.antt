@@ -6,18 +6,18 @@ use Rattle.entries.proofs.Updating.{agreed-not, agreed-so}
 use Rattle.entries.proofs.agreed.Statement.{statement}
 use Rattle.entries.proofs.agreed.Tie as tie
 
-differs-requires : tie.Need-differs-requires
-differs-requires c κs = search needs
+unlike-requires : tie.Need-unlike-requires
+unlike-requires c κs = search needs
 
 returns : tie.Need-returns
 returns c =
     let k = c .before .before .before .before in
-    agreed-so (k .args .store .now) (k .args .copy .now) (k .args .r) (k .args .i) (k .args .p) (c .before .differs .ensures) (not-true _ (c .if1 .taken))
+    agreed-so (k .args .store .now) (k .args .copy .now) (k .args .i) (k .args .p) (c .before .unlike .ensures) (not-true _ (c .if1 .taken))
 
 returns-2 : tie.Need-returns-2
 returns-2 c =
     let k = c .before .before .before .before in
-    agreed-not (k .args .store .now) (k .args .copy .now) (k .args .r) (k .args .i) (k .args .p) (c .before .differs .ensures) (not-false _ (c .if1 .left))
+    agreed-not (k .args .store .now) (k .args .copy .now) (k .args .i) (k .args .p) (c .before .unlike .ensures) (not-false _ (c .if1 .left))
 
 pub agreed-spec : {M : Type 1} → statement M
-agreed-spec = tie.close (tie.spec differs-requires returns returns-2)
+agreed-spec = tie.close (tie.spec unlike-requires returns returns-2)

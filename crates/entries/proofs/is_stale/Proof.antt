@@ -31,9 +31,6 @@ returns c =
     let a = c .before .before .before .before .before .before .before .before .args in
     unmodified-current (storeHistory (a .store .now)) (c .before .before .before .before .before .entry-at .ensures) (c .before .before .before .state .given .1) (c .before .differs .ensures) (not-true _ (c .if1 .taken))
 
-cast-named-since : tie.Need-cast-named-since
-cast-named-since c = search needs
-
 named-since-requires : tie.Need-named-since-requires
 named-since-requires c κs = search needs
 
@@ -45,9 +42,6 @@ in-newest-requires c κs = search needs
 
 enum-known-state-2 : tie.Need-enum-known-state-2
 enum-known-state-2 c = search needs
-
-cast-named-since-2 : tie.Need-cast-named-since-2
-cast-named-since-2 c = search needs
 
 named-since-requires-2 : tie.Need-named-since-requires-2
 named-since-requires-2 c κs = search needs
@@ -91,12 +85,10 @@ is-stale-spec =
     cast-differs
     differs-requires
     returns
-    cast-named-since
     named-since-requires
     enum-told-2
     in-newest-requires
     enum-known-state-2
-    cast-named-since-2
     named-since-requires-2
     enum-told-3
     in-newest-requires-2

@@ -1,7 +1,9 @@
 -- `entries::update_of` meets its contract, one law for each answer.
 -- Assumes nothing.
+use native.Mathlib.Omega.{arith}
 use borrow.Author.Needs.{needs}
 use borrow.Author.Tests.{not-false, not-true}
+use Rattle.entries.proofs.Looking.{found-inside}
 use Rattle.entries.proofs.States.{deleted-base, normal-base}
 use Rattle.entries.proofs.Updating.{agreed-added, agreed-copied, agreed-modified, conflict-deleted, stay-added, stay-copied, update-deleted, update-empty, update-modified, update-unmodified}
 use Rattle.entries.proofs.update_of.Statement.{statement}
@@ -22,39 +24,41 @@ taken-requires c κs = search needs
 enum-known-state : tie.Need-enum-known-state
 enum-known-state c = search needs
 
-cast-differs : tie.Need-cast-differs
-cast-differs c = search needs
+cast-look-up : tie.Need-cast-look-up
+cast-look-up c = search needs
 
-differs-requires : tie.Need-differs-requires
-differs-requires c κs =
+look-up-requires-2 : tie.Need-look-up-requires-2
+look-up-requires-2 c κs =
     let k = c .before .before .before .before .before .before .before in
-    (k .pre .0 .viewed, k .pre .1, normal-base (k .args .store .now) (k .args .copy .now) (k .args .v) (k .pre .0) (c .before .before .before .entry-at .ensures) (c .before .state .given .1), k .pre .1)
+    let o = k .pre .0 .viewed .opened in
+    (o .accepted, omega (arith, o .last, normal-base (k .args .store .now) (k .args .copy .now) (k .args .v) (k .pre .0) (c .before .before .before .entry-at .ensures) (c .before .state .given .1)), k .pre .1)
+
+unlike-requires : tie.Need-unlike-requires
+unlike-requires c κs =
+    let k = c .before .before .before .before .before .before .before .before in
+    let w = k .pre .0 .viewed in
+    (w .opened .accepted .clear, w .accepted, k .pre .1, found-inside (k .args .store .now) (k .args .v) (w .opened) (_) (k .args .i) (normal-base (k .args .store .now) (k .args .copy .now) (k .args .v) (k .pre .0) (c .before .before .before .before .entry-at .ensures) (c .before .before .state .given .1)) (c .look-up2 .ensures))
 
 taken-requires-2 : tie.Need-taken-requires-2
 taken-requires-2 c κs = search needs
 
 returns : tie.Need-returns
 returns c =
-    let k = c .before .before .before .before .before .before .before .before .before .before in
-    update-unmodified (k .args .store .now) (k .args .copy .now) (k .args .v) (k .pre .0 .viewed .opened) (k .args .r) (k .args .i) (k .pre .2) (c .before .before .before .before .before .before .before .look-up .ensures) (c .before .before .before .before .before .before .entry-at .ensures)
-    (c .before .before .before .before .state .given .1) (c .before .before .differs .ensures) (not-true _ (c .before .if1 .taken)) (c .taken2 .ensures)
-
-cast-same-namer : tie.Need-cast-same-namer
-cast-same-namer c = search needs
-
-same-namer-requires : tie.Need-same-namer-requires
-same-namer-requires c κs =
-    let k = c .before .before .before .before .before .before .before .before .before in
-    (k .pre .0 .viewed .opened, k .pre .2, normal-base (k .args .store .now) (k .args .copy .now) (k .args .v) (k .pre .0) (c .before .before .before .before .before .entry-at .ensures) (c .before .before .before .state .given .1), k .pre .1)
+    let k = c .before .before .before .before .before .before .before .before .before .before .before in
+    update-unmodified (k .args .store .now) (k .args .copy .now) (k .args .v) (k .pre .0 .viewed .opened) (k .args .r) (k .args .i) (k .pre .2) (c .before .before .before .before .before .before .before .before .look-up .ensures) (c .before .before .before .before .before .before .before .entry-at .ensures)
+    (c .before .before .before .look-up2 .ensures) (c .before .before .before .before .before .state .given .1) (normal-base (k .args .store .now) (k .args .copy .now) (k .args .v) (k .pre .0) (c .before .before .before .before .before .before .before .entry-at .ensures) (c .before .before .before .before .before .state .given .1)) (c .before .before .unlike .ensures) (not-true _ (c .before .if1 .taken)) (c .taken2 .ensures)
 
 returns-2 : tie.Need-returns-2
 returns-2 c =
-    let k = c .before .before .before .before .before .before .before .before .before .before .before in
-    update-modified (k .args .store .now) (k .args .copy .now) (k .args .v) (k .pre .0 .viewed .opened) (k .args .r) (k .args .i) (k .pre .2) (c .before .before .before .before .before .before .before .before .look-up .ensures) (c .before .before .before .before .before .before .before .entry-at .ensures)
-    (c .before .before .before .before .before .state .given .1) (c .before .before .before .differs .ensures) (not-false _ (c .before .before .if1 .left)) (c .before .same-namer .ensures) (c .if2 .taken)
+    let k = c .before .before .before .before .before .before .before .before .before .before .before .before .before in
+    update-modified (k .args .store .now) (k .args .copy .now) (k .args .v) (k .pre .0 .viewed .opened) (k .args .r) (k .args .i) (k .pre .2) (c .before .before .before .before .before .before .before .before .before .before .look-up .ensures) (c .before .before .before .before .before .before .before .before .before .entry-at .ensures)
+    (c .before .before .before .before .before .look-up2 .ensures) (c .before .before .before .before .before .before .before .state .given .1) (normal-base (k .args .store .now) (k .args .copy .now) (k .args .v) (k .pre .0) (c .before .before .before .before .before .before .before .before .before .entry-at .ensures) (c .before .before .before .before .before .before .before .state .given .1)) (c .before .before .before .before .unlike .ensures) (not-false _ (c .before .before .before .if1 .left)) (c .if2 .taken)
 
 agreed-requires : tie.Need-agreed-requires
-agreed-requires c κs = search needs
+agreed-requires c κs =
+    let k = c .before .before .before .before .before .before .before .before .before .before .before .before .before in
+    let w = k .pre .0 .viewed in
+    (w .opened .accepted .clear, w .accepted, k .pre .1, found-inside (k .args .store .now) (k .args .v) (w .opened) (k .args .r) (k .args .i) (k .pre .2) (c .before .before .before .before .before .before .before .before .before .before .look-up .ensures))
 
 enum-told-2 : tie.Need-enum-told-2
 enum-told-2 c = search needs
@@ -66,24 +70,28 @@ returns-3 c =
     (c .if3 .taken) (c .before .enum-told2 .given .1)
 
 agreed-requires-2 : tie.Need-agreed-requires-2
-agreed-requires-2 c κs = search needs
+agreed-requires-2 c κs =
+    let k = c .before .before .before .before .before .before .before in
+    let w = k .pre .0 .viewed in
+    (w .opened .accepted .clear, w .accepted, k .pre .1, found-inside (k .args .store .now) (k .args .v) (w .opened) (k .args .r) (k .args .i) (k .pre .2) (c .before .before .before .before .look-up .ensures))
 
 enum-known-state-2 : tie.Need-enum-known-state-2
 enum-known-state-2 c = search needs
 
-cast-same-namer-2 : tie.Need-cast-same-namer-2
-cast-same-namer-2 c = search needs
+cast-look-up-2 : tie.Need-cast-look-up-2
+cast-look-up-2 c = search needs
 
-same-namer-requires-2 : tie.Need-same-namer-requires-2
-same-namer-requires-2 c κs =
+look-up-requires-3 : tie.Need-look-up-requires-3
+look-up-requires-3 c κs =
     let k = c .before .before .before .before .before .before .before in
-    (k .pre .0 .viewed .opened, k .pre .2, deleted-base (k .args .store .now) (k .args .copy .now) (k .args .v) (k .pre .0) (c .before .before .before .entry-at .ensures) (c .before .state2 .given .1), k .pre .1)
+    let o = k .pre .0 .viewed .opened in
+    (o .accepted, omega (arith, o .last, deleted-base (k .args .store .now) (k .args .copy .now) (k .args .v) (k .pre .0) (c .before .before .before .entry-at .ensures) (c .before .state2 .given .1)), k .pre .1)
 
 returns-4 : tie.Need-returns-4
 returns-4 c =
-    let k = c .before .before .before .before .before .before .before .before .before in
-    update-deleted (k .args .store .now) (k .args .copy .now) (k .args .v) (k .pre .0 .viewed .opened) (k .args .r) (k .args .i) (k .pre .2) (c .before .before .before .before .before .before .look-up .ensures) (c .before .before .before .before .before .entry-at .ensures)
-    (c .before .before .before .state2 .given .1) (c .before .same-namer2 .ensures) (c .if4 .taken)
+    let k = c .before .before .before .before .before .before .before .before .before .before .before in
+    update-deleted (k .args .store .now) (k .args .copy .now) (k .args .v) (k .pre .0 .viewed .opened) (k .args .r) (k .args .i) (k .pre .2) (c .before .before .before .before .before .before .before .before .look-up .ensures) (c .before .before .before .before .before .before .before .entry-at .ensures)
+    (c .before .before .before .look-up3 .ensures) (c .before .before .before .before .before .state2 .given .1) (c .if4 .taken)
 
 enum-told-3 : tie.Need-enum-told-3
 enum-told-3 c = search needs
@@ -95,7 +103,10 @@ returns-5 c =
     (c .if5 .taken) (c .before .enum-told3 .given .1)
 
 agreed-requires-3 : tie.Need-agreed-requires-3
-agreed-requires-3 c κs = search needs
+agreed-requires-3 c κs =
+    let k = c .before .before .before .before .before .before .before in
+    let w = k .pre .0 .viewed in
+    (w .opened .accepted .clear, w .accepted, k .pre .1, found-inside (k .args .store .now) (k .args .v) (w .opened) (k .args .r) (k .args .i) (k .pre .2) (c .before .before .before .before .look-up .ensures))
 
 returns-6 : tie.Need-returns-6
 returns-6 c =
@@ -105,9 +116,9 @@ returns-6 c =
 
 returns-7 : tie.Need-returns-7
 returns-7 c =
-    let k = c .before .before .before .before .before .before .before .before .before .before .before .before in
-    agreed-modified (k .args .store .now) (k .args .copy .now) (k .args .v) (k .pre .0 .viewed .opened) (k .args .r) (k .args .i) (k .pre .2) (c .before .before .before .before .before .before .before .before .before .look-up .ensures) (c .before .before .before .before .before .before .before .before .entry-at .ensures)
-    (c .before .before .before .before .before .before .state .given .1) (c .before .before .before .before .differs .ensures) (not-false _ (c .before .before .before .if1 .left)) (c .before .before .same-namer .ensures) (c .before .if2 .left) (c .agreed .ensures)
+    let k = c .before .before .before .before .before .before .before .before .before .before .before .before .before .before in
+    agreed-modified (k .args .store .now) (k .args .copy .now) (k .args .v) (k .pre .0 .viewed .opened) (k .args .r) (k .args .i) (k .pre .2) (c .before .before .before .before .before .before .before .before .before .before .before .look-up .ensures) (c .before .before .before .before .before .before .before .before .before .before .entry-at .ensures)
+    (c .before .before .before .before .before .before .look-up2 .ensures) (c .before .before .before .before .before .before .before .before .state .given .1) (normal-base (k .args .store .now) (k .args .copy .now) (k .args .v) (k .pre .0) (c .before .before .before .before .before .before .before .before .before .before .entry-at .ensures) (c .before .before .before .before .before .before .before .before .state .given .1)) (c .before .before .before .before .before .unlike .ensures) (not-false _ (c .before .before .before .before .if1 .left)) (c .before .if2 .left) (c .agreed .ensures)
 
 returns-8 : tie.Need-returns-8
 returns-8 c =
@@ -117,9 +128,9 @@ returns-8 c =
 
 returns-9 : tie.Need-returns-9
 returns-9 c =
-    let k = c .before .before .before .before .before .before .before .before .before in
-    conflict-deleted (k .args .store .now) (k .args .copy .now) (k .args .v) (k .pre .0 .viewed .opened) (k .args .r) (k .args .i) (k .pre .2) (c .before .before .before .before .before .before .look-up .ensures) (c .before .before .before .before .before .entry-at .ensures)
-    (c .before .before .before .state2 .given .1) (c .before .same-namer2 .ensures) (c .if4 .left)
+    let k = c .before .before .before .before .before .before .before .before .before .before .before in
+    conflict-deleted (k .args .store .now) (k .args .copy .now) (k .args .v) (k .pre .0 .viewed .opened) (k .args .r) (k .args .i) (k .pre .2) (c .before .before .before .before .before .before .before .before .look-up .ensures) (c .before .before .before .before .before .before .before .entry-at .ensures)
+    (c .before .before .before .look-up3 .ensures) (c .before .before .before .before .before .state2 .given .1) (c .if4 .left)
 
 returns-10 : tie.Need-returns-10
 returns-10 c =
@@ -136,20 +147,19 @@ update-of-spec =
     enum-told
     taken-requires
     enum-known-state
-    cast-differs
-    differs-requires
+    cast-look-up
+    look-up-requires-2
+    unlike-requires
     taken-requires-2
     returns
-    cast-same-namer
-    same-namer-requires
     returns-2
     agreed-requires
     enum-told-2
     returns-3
     agreed-requires-2
     enum-known-state-2
-    cast-same-namer-2
-    same-namer-requires-2
+    cast-look-up-2
+    look-up-requires-3
     returns-4
     enum-told-3
     returns-5

@@ -39,9 +39,8 @@ span-at-requires c κs =
 returns-3 : tie.Need-returns-3
 returns-3 c =
     let a = c .before .before .before .before .before .before .before .args in
-    let f = ap (λ (x : Found). x .block) (c .before .before .before .look-up .ensures) in
     record {
-      is = read-there (a .store .now) (a .revision) (a .sheet) (a .h) (c .before .before .before .before .before .before .before .pre) (sym (c .before .before .before .before .before .beyond .ensures) ∙ search needs) (c .before .before .before .look-up .result .block) (c .span-at .result) f (c .before .if2 .left) (c .span-at .ensures .is);
+      is = read-there (a .store .now) (a .revision) (a .sheet) (a .h) (c .before .before .before .before .before .before .before .pre) (sym (c .before .before .before .before .before .beyond .ensures) ∙ search needs) (c .before .before .before .look-up .result) (c .span-at .result) (c .before .before .before .look-up .ensures) (c .before .if2 .left) (c .span-at .ensures .is);
       inside = c .span-at .ensures .inside;
     }
 

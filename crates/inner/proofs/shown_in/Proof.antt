@@ -7,7 +7,7 @@ use Rattle.block.specs.Buffer.{blockAt}
 use Rattle.model.specs.Calls.{inCopy}
 use Rattle.model.specs.Entry.{ownBytes}
 use Rattle.workcopy.specs.Copy.{bytesIn}
-use Rattle.inner.proofs.Showing.{newest-block, newest-inside, own-none, own-some, show-beyond, show-lacking, show-own, show-there}
+use Rattle.inner.proofs.Showing.{newest-inside, own-none, own-some, show-beyond, show-lacking, show-own, show-there}
 use borrow.Author.Needs.{needs}
 use Rattle.inner.proofs.shown_in.Statement.{statement}
 use Rattle.inner.proofs.shown_in.Tie as tie
@@ -60,8 +60,7 @@ returns-3 c =
     let R = c .before .before .before .before .before .entry-at .ensures in
     let x = bytesIn e (blockAt (a .copy .now) (a .sheet + 1)) in
     let q = ap ownBytes (sym (R .means)) ∙ own-none (e .state) x (sym (c .before .before .before .before .own-bytes .ensures) ∙ c .before .before .before .if2 .left) in
-    let u = newest-block (a .store .now) (a .copy .now) (a .v) P (a .sheet) (c .before .before .look-up .ensures) in
-    record { is = show-lacking (a .store .now) (a .copy .now) (a .v) P (a .sheet) low q _ u (c .if3 .taken); inside = tt }
+    record { is = show-lacking (a .store .now) (a .copy .now) (a .v) P (a .sheet) low q (c .before .before .look-up .result) (c .before .before .look-up .ensures) (c .if3 .taken); inside = tt }
 
 span-at-requires : tie.Need-span-at-requires
 span-at-requires c κs =
@@ -78,9 +77,8 @@ returns-4 c =
     let R = c .before .before .before .before .before .before .entry-at .ensures in
     let x = bytesIn e (blockAt (a .copy .now) (a .sheet + 1)) in
     let q = ap ownBytes (sym (R .means)) ∙ own-none (e .state) x (sym (c .before .before .before .before .before .own-bytes .ensures) ∙ c .before .before .before .before .if2 .left) in
-    let u = newest-block (a .store .now) (a .copy .now) (a .v) P (a .sheet) (c .before .before .before .look-up .ensures) in
     let S = c .span-at .ensures in
-    record { is = show-there (a .store .now) (a .copy .now) (a .v) P (a .sheet) low q _ u (c .before .if3 .left) (c .span-at .result) (S .is); inside = S .inside }
+    record { is = show-there (a .store .now) (a .copy .now) (a .v) P (a .sheet) low q (c .before .before .before .look-up .result) (c .before .before .before .look-up .ensures) (c .before .if3 .left) (c .span-at .result) (S .is); inside = S .inside }
 
 pub shown-in-spec : {M : Type 1} → statement M
 shown-in-spec =

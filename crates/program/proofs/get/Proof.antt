@@ -1,7 +1,7 @@
 -- A sheet out of the store: what stands at the place that `read_place` answers is what read is heard to say.
 -- Assumes nothing.
 use Prim.Native.Nat.{_+_, _-_, ℕ}
-use mathlib.Core.List.{List, [], _++_, _∷_}
+use mathlib.Core.List.{[], _++_, _∷_}
 use mathlib.Core.Path.{_∙_, ap, subst, sym}
 use native.Mathlib.Nat.{add-sub-cancel-left}
 use native.Mathlib.Omega.{arith}
@@ -9,11 +9,10 @@ use borrow.Author.Needs.{needs}
 use lib.ListN.{drop, length-take, take}
 use Rattle.inner.specs.Place.{Inside}
 use Rattle.model.specs.Calls.{Place, heard, readCall}
-use Rattle.model.specs.Machine.{bytes}
 use Rattle.model.specs.Types.{placeOf}
 use Rattle.model.specs.declared.Place.{Place as ThePlace}
 use Rattle.text.specs.Text.{decimalOf}
-use Rattle.program.specs.Output.{textOf}
+use Rattle.program.specs.Output.{sheetText, textOf}
 use Rattle.program.proofs.Printing.{no-part, said-as}
 use Rattle.program.proofs.get.Statement.{statement}
 use Rattle.program.proofs.get.Tie as tie
@@ -93,8 +92,8 @@ returns-2 c =
     let x = c .before .before .say-bytes in
     let p = c .before .before .before .before .before .before .before .place2 .given .0 .0 in
     let i = subst (Inside store []) (c .before .before .before .before .before .before .before .place2 .given .1) (c .before .before .before .before .before .before .before .before .before .read-place .ensures .inside) in
-    let s = said-as (x .result) (a .at) (textOf (bytes (take (p .start + p .len - p .start) (drop (p .start) store)))) (textOf (readCall store (a .revision) (a .sheet))) (x .last .0) (a .out .now) (x .ensures .0) (x .ensures .1 .0)
-    (ap (λ (k : ℕ). textOf (bytes (take k (drop (p .start) store)))) (add-sub-cancel-left (p .start) (p .len)) ∙ ap (λ (k : ThePlace). textOf (heard store [] (placeOf k))) (sym (c .before .before .before .before .before .before .before .place2 .given .1))
+    let s = said-as (x .result) (a .at) (sheetText (take (p .start + p .len - p .start) (drop (p .start) store))) (textOf (readCall store (a .revision) (a .sheet))) (x .last .0) (a .out .now) (x .ensures .0) (x .ensures .1 .0)
+    (ap (λ (k : ℕ). sheetText (take k (drop (p .start) store))) (add-sub-cancel-left (p .start) (p .len)) ∙ ap (λ (k : ThePlace). textOf (heard store [] (placeOf k))) (sym (c .before .before .before .before .before .before .before .place2 .given .1))
     ∙ ap (λ (q : Place). textOf (heard store [] q)) (c .before .before .before .before .before .before .before .before .before .read-place .ensures .is)) in
     (s .0, (s .1, omega (arith, i, length-take (p .start + p .len - p .start) (drop (p .start) store), x .ensures .1 .1)))
 
@@ -107,8 +106,8 @@ returns-3 c =
     let store = a .store .now in
     let x = c .before .before .say-bytes2 in
     let p = c .before .before .before .before .before .enum-told .given .0 .0 in
-    let s = said-as (x .result) (a .at) (textOf (bytes [])) (textOf (readCall store (a .revision) (a .sheet))) (x .last .0) (a .out .now) (x .ensures .0) (x .ensures .1 .0)
-    (ap (λ (y : List ℕ). textOf (bytes y)) (sym (no-part (p .start) (p .len))) ∙ ap (λ (k : ThePlace). textOf (heard store [] (placeOf k))) (sym (c .before .before .before .before .before .enum-told .given .1))
+    let s = said-as (x .result) (a .at) (sheetText []) (textOf (readCall store (a .revision) (a .sheet))) (x .last .0) (a .out .now) (x .ensures .0) (x .ensures .1 .0)
+    (ap sheetText (sym (no-part (p .start) (p .len))) ∙ ap (λ (k : ThePlace). textOf (heard store [] (placeOf k))) (sym (c .before .before .before .before .before .enum-told .given .1))
     ∙ ap (λ (q : Place). textOf (heard store [] q)) (c .before .before .before .before .before .before .before .read-place .ensures .is)) in
     (s .0, (s .1, omega (arith, x .ensures .1 .1)))
 

@@ -1,7 +1,7 @@
 -- `replay::put_answer` meets its contract, one answer at a time.
 -- Assumes nothing.
 use borrow.Author.Needs.{needs}
-use Rattle.replay.proofs.Writing.{answered, done-record, refused-record, revision-record, status-record}
+use Rattle.replay.proofs.Writing.{answered, done-record, refused-record, revision-record}
 use Rattle.replay.proofs.put_answer.Statement.{statement}
 use Rattle.replay.proofs.put_answer.Tie as tie
 
@@ -26,8 +26,8 @@ put32-requires-2 c κs = search needs
 enum-known-answer-3 : tie.Need-enum-known-answer-3
 enum-known-answer-3 c = search needs
 
-put32-requires-3 : tie.Need-put32-requires-3
-put32-requires-3 c κs = search needs
+put-standing-requires : tie.Need-put-standing-requires
+put-standing-requires c κs = search needs
 
 enum-known-answer-4 : tie.Need-enum-known-answer-4
 enum-known-answer-4 c = search needs
@@ -54,7 +54,7 @@ same-length-3 : tie.Need-same-length-3
 same-length-3 c = search needs
 
 returns-4 : tie.Need-returns-4
-returns-4 c = answered (c .before .before .before .before .before .answer3 .given .1) (status-record (c .before .before .before .before .before .before .before .before .pre) (c .before .before .before .before .before .answer3 .given .0 .0) (c .before .before .put323 .ensures))
+returns-4 c = answered (c .before .before .before .before .before .answer3 .given .1) (c .before .before .put-standing .ensures)
 
 same-length-4 : tie.Need-same-length-4
 same-length-4 c = search needs
@@ -73,7 +73,7 @@ put-answer-spec =
     enum-known-answer-2
     put32-requires-2
     enum-known-answer-3
-    put32-requires-3
+    put-standing-requires
     enum-known-answer-4
     put-log-requires
     same-length

@@ -68,9 +68,6 @@ search-again c =
 two-at-requires : tie.Need-two-at-requires Inv-changes μ-changes Inv-search μ-search
 two-at-requires c κs = search needs
 
-cast-revision : tie.Need-cast-revision Inv-changes μ-changes Inv-search μ-search
-cast-revision c = search needs
-
 two-at-requires-2 : tie.Need-two-at-requires-2 Inv-changes μ-changes Inv-search μ-search
 two-at-requires-2 c κs = search needs
 
@@ -184,7 +181,6 @@ find-spec =
     search-less
     search-again
     two-at-requires
-    cast-revision
     two-at-requires-2
     cast-m
     changes-holds

@@ -20,11 +20,11 @@ enum-told c = search needs
 enum-known-answer-2 : tie.Need-enum-known-answer-2
 enum-known-answer-2 c = search needs
 
-enum-known-answer-3 : tie.Need-enum-known-answer-3
-enum-known-answer-3 c = search needs
-
 enum-told-2 : tie.Need-enum-told-2
 enum-told-2 c = search needs
+
+enum-told-3 : tie.Need-enum-told-3
+enum-told-3 c = search needs
 
 returns : tie.Need-returns
 returns c =
@@ -37,10 +37,10 @@ returns-3 : tie.Need-returns-3
 returns-3 c = answer-known (c .before .answer2 .given .1)
 
 returns-4 : tie.Need-returns-4
-returns-4 c = answer-known (c .before .answer3 .given .1)
+returns-4 c = answer-known (c .enum-told2 .given .1)
 
 returns-5 : tie.Need-returns-5
-returns-5 c = answer-known (c .enum-told2 .given .1)
+returns-5 c = answer-known (c .enum-told3 .given .1)
 
 pub answer-numbers-spec : {M : Type 1} → statement M
 answer-numbers-spec =
@@ -50,8 +50,8 @@ answer-numbers-spec =
     number-requires
     enum-told
     enum-known-answer-2
-    enum-known-answer-3
     enum-told-2
+    enum-told-3
     returns
     returns-2
     returns-3
