@@ -19,19 +19,28 @@ extern "C" {
 #define SHEETS_COPY_LEN 16896
 #define SHEETS_RECORD_LEN 512
 
-/* refusal 0: done; value: a commit's revision, a status, else 0 */
+/* refusal 0: done; value: a commit's revision, else 0 */
 typedef struct {
     uint32_t refusal;
     uint32_t value;
 } sheets_answer;
 
-/* buffer 0: store, 1: working copy; refused, an empty part at the store's start */
+/* buffer 0: store, 1: working copy; refused, an empty part at the store's start; revision: the last commit that named the sheet,
+ * 0 for a part of the working copy and refused */
 typedef struct {
     uint32_t refusal;
     uint32_t buffer;
     size_t start;
     size_t len;
+    uint32_t revision;
 } sheets_place;
+
+/* status 0 to 8; revision: the last commit that named the sheet, 0 if none did; refused, both are 0 */
+typedef struct {
+    uint32_t refusal;
+    uint32_t status;
+    uint32_t revision;
+} sheets_standing;
 
 /* action 0: the commit did nothing to the sheet, 1 add, 2 change, 3 delete, 4 copy; the source of a copy, else zeros */
 typedef struct {
@@ -57,9 +66,11 @@ sheets_answer sheets_commit(uint8_t *store, size_t store_len, uint8_t *copy, siz
 sheets_answer sheets_update(const uint8_t *store, size_t store_len, uint8_t *copy, size_t copy_len, uint32_t mask, uint32_t revision);
 sheets_answer sheets_revert(const uint8_t *store, size_t store_len, uint8_t *copy, size_t copy_len, uint32_t mask);
 
+/* The revision beside a sheet is the last commit that named it: by an add, change or delete of it, or a copy to it, not from it.
+ * Read looks up to the revision that it reads, show (for a part of the store) and status up to the last one. */
 sheets_place sheets_read(const uint8_t *store, size_t store_len, uint32_t revision, uint32_t sheet);
 sheets_place sheets_show(const uint8_t *store, size_t store_len, const uint8_t *copy, size_t copy_len, uint32_t sheet);
-sheets_answer sheets_status(const uint8_t *store, size_t store_len, const uint8_t *copy, size_t copy_len, uint32_t sheet);
+sheets_standing sheets_status(const uint8_t *store, size_t store_len, const uint8_t *copy, size_t copy_len, uint32_t sheet);
 sheets_log_entry sheets_log(const uint8_t *store, size_t store_len, uint32_t revision, uint32_t sheet);
 
 /* A list of calls. The script has a record of 512 bytes for each call, copies are the working copies of seats 1 to 4 side by

@@ -4,7 +4,7 @@
 #[allow(dead_code)]
 mod ffi;
 
-pub use ffi::{Answer, LogEntry, Place};
+pub use ffi::{Answer, LogEntry, Place, Standing};
 
 mod c {
     pub use super::ffi::*;
@@ -69,7 +69,7 @@ pub fn show(store: &[u8], copy: &[u8], sheet: u32) -> Place {
     unsafe { c::sheets_show(store.as_ptr(), store.len(), copy.as_ptr(), copy.len(), sheet) }
 }
 
-pub fn status(store: &[u8], copy: &[u8], sheet: u32) -> Answer {
+pub fn status(store: &[u8], copy: &[u8], sheet: u32) -> Standing {
     unsafe { c::sheets_status(store.as_ptr(), store.len(), copy.as_ptr(), copy.len(), sheet) }
 }
 

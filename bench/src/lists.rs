@@ -102,8 +102,9 @@ pub fn each(blocks: usize, acceptance: f64) {
         run: Box::new(move || {
             timed(|| {
                 for _ in 0..128 {
-                    let (at, len) = store::find(std::hint::black_box(bytes), used, last as usize, sheet as usize).expect("it is there");
+                    let (at, len, revision) = store::find(std::hint::black_box(bytes), used, last as usize, sheet as usize).expect("it is there");
                     record.fill(0);
+                    record[8..12].copy_from_slice(&(revision as u32).to_le_bytes());
                     record[28..32].copy_from_slice(&(len as u32).to_le_bytes());
                     record[32..32 + len].copy_from_slice(&bytes[at..at + len]);
                     std::hint::black_box(&record);

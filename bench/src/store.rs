@@ -171,8 +171,8 @@ fn commit(store: &[u8], b: &[u8], first: usize, p: usize, table: &[[u16; 32]]) -
     Some(row)
 }
 
-/// Sheet i of tree r in an accepted store: its bytes' place and length.
-pub fn find(store: &[u8], used: usize, r: usize, sheet: usize) -> Option<(usize, usize)> {
+/// Sheet i of tree r in an accepted store: its bytes' place and length, and the last commit up to r that named it.
+pub fn find(store: &[u8], used: usize, r: usize, sheet: usize) -> Option<(usize, usize, usize)> {
     // the first block after commit r: the revisions that blocks carry rise
     let (mut lo, mut hi) = (1, used);
     while lo < hi {
@@ -189,7 +189,7 @@ pub fn find(store: &[u8], used: usize, r: usize, sheet: usize) -> Option<(usize,
             for l in b[16..16 + 8 * two(b, 2)].chunks_exact(8) {
                 if l[0] as usize == sheet {
                     let at = two(l, 2);
-                    return (at != 0).then(|| (at * BLOCK + 16, two(&store[at * BLOCK..], 2)));
+                    return (at != 0).then(|| (at * BLOCK + 16, two(&store[at * BLOCK..], 2), two(b, 4)));
                 }
             }
         }

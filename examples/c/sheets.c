@@ -1,4 +1,5 @@
-/* Two seats at one store: add, commit, update, read back, two refusals, and the same edit twice; then two calls as one script. Exits 1 at the first answer that is not as expected.
+/* Two seats at one store: add, commit, update, read back with the revision beside each sheet, two refusals, and the same edit twice; then two calls as one script.
+ * Exits 1 at the first answer that is not as expected.
  *
  *     rt staticlib sheetstore
  *     cc -Wall -Wextra -Werror -Iinclude examples/c/sheets.c target/staticlib/libsheetstore.a -o target/sheets && target/sheets
@@ -30,13 +31,26 @@ static void expect(const char *what, sheets_answer got, uint32_t refusal, uint32
         printf("%s: done\n", what);
 }
 
-/* Ends the program unless a part of a buffer holds this text. */
-static void expect_text(const char *what, const uint8_t *buffer, sheets_place part, const char *text) {
-    if (part.refusal != 0 || part.len != strlen(text) || memcmp(buffer + part.start, text, part.len) != 0) {
-        printf("%s: refusal %u, %zu bytes; expected \"%s\"\n", what, part.refusal, part.len, text);
+/* Ends the program unless a part of a buffer holds this text, set by this revision; 0 where the text is a seat's own. */
+static void expect_text(const char *what, const uint8_t *buffer, sheets_place part, const char *text, uint32_t revision) {
+    if (part.refusal != 0 || part.len != strlen(text) || memcmp(buffer + part.start, text, part.len) != 0 || part.revision != revision) {
+        printf("%s: refusal %u, %zu bytes, revision %u; expected \"%s\", revision %u\n", what, part.refusal, part.len, part.revision, text, revision);
         exit(1);
     }
-    printf("%s: \"%.*s\"\n", what, (int)part.len, (const char *)buffer + part.start);
+    printf("%s: \"%.*s\", ", what, (int)part.len, (const char *)buffer + part.start);
+    if (revision != 0)
+        printf("set by revision %u\n", revision);
+    else
+        printf("the seat's own\n");
+}
+
+/* Ends the program unless a sheet has this status, and this revision named it last. */
+static void expect_status(const char *what, sheets_standing got, uint32_t status, uint32_t revision) {
+    if (got.refusal != 0 || got.status != status || got.revision != revision) {
+        printf("%s: refusal %u, status %u, revision %u; expected status %u, revision %u\n", what, got.refusal, got.status, got.revision, status, revision);
+        exit(1);
+    }
+    printf("%s: %u, last named by revision %u\n", what, status, revision);
 }
 
 static sheets_answer add(uint8_t *copy, uint32_t sheet, const char *text) {
@@ -88,7 +102,8 @@ static void replay(void) {
     expect("seat 3 adds sheet 6 and commits, in one script", all, 0, 0);
     expect("the add's answer", answer_in(answers), 0, 0);
     expect("the commit's answer", answer_in(answers + SHEETS_RECORD_LEN), 0, 3);
-    expect_text("sheet 6 at revision 3", store, sheets_read(store, sizeof store, 3, 6), "pH 7.2");
+    expect_text("sheet 6 at revision 3", store, sheets_read(store, sizeof store, 3, 6), "pH 7.2", 3);
+    expect_text("sheet 5 at revision 3", store, sheets_read(store, sizeof store, 3, 5), "stop after 20 s", 2);
 }
 
 int main(void) {
@@ -103,14 +118,14 @@ int main(void) {
     expect("seat 2 edits sheet 5", edit(office, 5, "stop after 20 s"), 0, 0);
     expect("seat 2 commits", commit(office, 200), 0, 2);
     expect("seat 1 edits sheet 5 too", edit(pump_room, 5, "stop after 60 s"), 0, 0);
-    expect("status at seat 1: needs merge", sheets_status(store, sizeof store, pump_room, sizeof pump_room, 5), 0, 4);
+    expect_status("status at seat 1, needs merge", sheets_status(store, sizeof store, pump_room, sizeof pump_room, 5), 4, 2);
     expect("seat 1 commits, out of date", commit(pump_room, 300), 11, 0);
     expect("seat 1 updates to 2, a conflict", update(pump_room, 2), 12, 0);
 
-    expect_text("sheet 5 at revision 1", store, sheets_read(store, sizeof store, 1, 5), "stop after 30 s");
-    expect_text("sheet 5 at revision 2", store, sheets_read(store, sizeof store, 2, 5), "stop after 20 s");
+    expect_text("sheet 5 at revision 1", store, sheets_read(store, sizeof store, 1, 5), "stop after 30 s", 1);
+    expect_text("sheet 5 at revision 2", store, sheets_read(store, sizeof store, 2, 5), "stop after 20 s", 2);
     sheets_place own = sheets_show(store, sizeof store, pump_room, sizeof pump_room, 5);
-    expect_text("what seat 1 sees", own.buffer == 1 ? pump_room : store, own, "stop after 60 s");
+    expect_text("what seat 1 sees", own.buffer == 1 ? pump_room : store, own, "stop after 60 s", 0);
 
     expect("seat 1 types what seat 2 committed", edit(pump_room, 5, "stop after 20 s"), 0, 0);
     expect("seat 1 updates to 2, they agree", update(pump_room, 2), 0, 0);

@@ -82,9 +82,9 @@ impl fmt::Display for Refusal {
 
 impl Error for Refusal {}
 
-/// The refusal with this number; 0 is none.
-pub fn refused(number: u32) -> Option<Refusal> {
-    (number as usize).checked_sub(1).map(|k| REFUSALS[k])
+/// The refusal with this number as an error; 0 is none.
+pub fn unless_refused(number: u32) -> Result<(), Refusal> {
+    (number as usize).checked_sub(1).map_or(Ok(()), |k| Err(REFUSALS[k]))
 }
 
 /// The status of a sheet's entry, with document 01's numbers.
@@ -123,9 +123,55 @@ const STATUSES: [Status; 9] = [
     Status::NeedsCheckout,
 ];
 
-/// The status with this number.
-pub fn status(number: u32) -> Status {
-    STATUSES[number as usize]
+/// The status of a sheet's entry, and the revision to print beside the sheet.
+#[derive(Clone, Copy, Debug, PartialEq, Eq, Hash)]
+pub struct Standing {
+    /// The status.
+    pub status: Status,
+    /// The last commit that named the sheet, its delete included; none if no commit did.
+    pub revision: Option<u32>,
+}
+
+/// A C standing as a standing or a refusal.
+pub fn standing(standing: ffi::Standing) -> Result<Standing, Refusal> {
+    unless_refused(standing.refusal)?;
+    Ok(Standing { status: STATUSES[standing.status as usize], revision: (standing.revision != 0).then_some(standing.revision) })
+}
+
+/// A sheet as some revision has it, and the revision to print beside it.
+#[derive(Clone, Copy, Debug, PartialEq, Eq, Hash)]
+pub struct Sheet<'a> {
+    /// The bytes.
+    pub bytes: &'a [u8],
+    /// The last commit that named the sheet, up to the revision that was looked at.
+    pub revision: u32,
+}
+
+/// What a seat sees of a sheet.
+#[derive(Clone, Copy, Debug, PartialEq, Eq, Hash)]
+pub enum Shown<'a> {
+    /// The seat's own bytes, which have no revision beside them.
+    Own(&'a [u8]),
+    /// What the last revision has.
+    Last(Sheet<'a>),
+}
+
+impl<'a> Shown<'a> {
+    /// The bytes of either.
+    pub fn bytes(self) -> &'a [u8] {
+        match self {
+            Shown::Own(bytes) => bytes,
+            Shown::Last(sheet) => sheet.bytes,
+        }
+    }
+}
+
+/// What C shows: the seat's own bytes have 0 beside them.
+pub fn shown(sheet: Sheet<'_>) -> Shown<'_> {
+    match sheet.revision {
+        0 => Shown::Own(sheet.bytes),
+        _ => Shown::Last(sheet),
+    }
 }
 
 /// What a commit did to a sheet.
@@ -161,9 +207,7 @@ pub struct LogEntry {
 
 /// A C log entry as an entry or a refusal.
 pub fn logged(entry: ffi::LogEntry) -> Result<LogEntry, Refusal> {
-    if let Some(refusal) = refused(entry.refusal) {
-        return Err(refusal);
-    }
+    unless_refused(entry.refusal)?;
     let action = match entry.action {
         0 => None,
         1 => Some(Action::Add),

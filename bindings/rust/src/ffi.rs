@@ -12,6 +12,14 @@ pub struct Place {
     pub buffer: u32,
     pub start: usize,
     pub len: usize,
+    pub revision: u32,
+}
+
+#[repr(C)]
+pub struct Standing {
+    pub refusal: u32,
+    pub status: u32,
+    pub revision: u32,
 }
 
 #[repr(C)]
@@ -38,7 +46,7 @@ extern "C" {
     pub fn sheets_revert(store: *const u8, store_len: usize, copy: *mut u8, copy_len: usize, mask: u32) -> Answer;
     pub fn sheets_read(store: *const u8, store_len: usize, revision: u32, sheet: u32) -> Place;
     pub fn sheets_show(store: *const u8, store_len: usize, copy: *const u8, copy_len: usize, sheet: u32) -> Place;
-    pub fn sheets_status(store: *const u8, store_len: usize, copy: *const u8, copy_len: usize, sheet: u32) -> Answer;
+    pub fn sheets_status(store: *const u8, store_len: usize, copy: *const u8, copy_len: usize, sheet: u32) -> Standing;
     pub fn sheets_log(store: *const u8, store_len: usize, revision: u32, sheet: u32) -> LogEntry;
     pub fn sheets_replay(script: *const u8, script_len: usize, store: *mut u8, store_len: usize, copies: *mut u8, copies_len: usize, answers: *mut u8, answers_len: usize) -> Answer;
 }

@@ -18,8 +18,14 @@
 //! sheets::commit(&mut store, &mut copy, 8, ALL)?;
 //!
 //! // Revision 1 is what was committed then; the bytes are a part of the store.
-//! assert_eq!(sheets::read(&store, first, 5)?, b"stop after 30 s");
+//! assert_eq!(sheets::read(&store, first, 5)?.bytes, b"stop after 30 s");
 //! assert_eq!(sheets::read(&store, 0, 5), Err(Refusal::Missing));
+//!
+//! // Beside a sheet stands the revision that set it.
+//! sheets::add(&store, &mut copy, 6, b"pH 7.2")?;
+//! let last = sheets::commit(&mut store, &mut copy, 9, ALL)?;
+//! let sheet = sheets::read(&store, last, 5)?;
+//! assert_eq!((last, sheet.bytes, sheet.revision), (3, &b"stop after 20 s"[..], 2));
 //! # Ok::<(), Refusal>(())
 //! ```
 //!
@@ -28,9 +34,9 @@
 //! ```compile_fail,E0502
 //! # let mut store = vec![0; 32 * sheetstore::BLOCK];
 //! # let mut copy = vec![0; sheetstore::COPY_LEN];
-//! let bytes = sheetstore::read(&store, 1, 5).unwrap();
+//! let sheet = sheetstore::read(&store, 1, 5).unwrap();
 //! sheetstore::commit(&mut store, &mut copy, 9, sheetstore::ALL).unwrap();
-//! println!("{bytes:?}");
+//! println!("{:?}, revision {}", sheet.bytes, sheet.revision);
 //! ```
 //!
 //! A list of calls by all four seats is made at once by [`replay`].
@@ -40,7 +46,7 @@ mod answers;
 mod ffi;
 mod script;
 
-pub use answers::{Action, LogEntry, Refusal, Status};
+pub use answers::{Action, LogEntry, Refusal, Sheet, Shown, Standing, Status};
 pub use script::{Answers, Call, Reply, Script, MAX_BYTES, RECORD_LEN};
 
 /// Bytes of a block.
@@ -54,7 +60,7 @@ pub const ALL: u32 = u32::MAX;
 
 /// A C answer as a value or a refusal.
 fn value(answer: ffi::Answer) -> Result<u32, Refusal> {
-    answers::refused(answer.refusal).map_or(Ok(answer.value), Err)
+    answers::unless_refused(answer.refusal).map(|_| answer.value)
 }
 
 /// A C answer that carries no value.
@@ -115,29 +121,27 @@ pub fn revert(store: &[u8], copy: &mut [u8], mask: u32) -> Result<(), Refusal> {
     done(unsafe { ffi::sheets_revert(store.as_ptr(), store.len(), copy.as_mut_ptr(), copy.len(), mask) })
 }
 
-/// The part of a buffer that a C place names.
-fn part<'a>(place: ffi::Place, store: &'a [u8], copy: &'a [u8]) -> Result<&'a [u8], Refusal> {
-    if let Some(refusal) = answers::refused(place.refusal) {
-        return Err(refusal);
-    }
+/// The part of a buffer that a C place names, and the revision beside it.
+fn part<'a>(place: ffi::Place, store: &'a [u8], copy: &'a [u8]) -> Result<Sheet<'a>, Refusal> {
+    answers::unless_refused(place.refusal)?;
     let buffer = if place.buffer == 0 { store } else { copy };
-    Ok(&buffer[place.start..place.start + place.len])
+    Ok(Sheet { bytes: &buffer[place.start..place.start + place.len], revision: place.revision })
 }
 
-/// The bytes of a sheet at a revision: a part of the store, nothing copied.
-pub fn read(store: &[u8], revision: u32, sheet: u32) -> Result<&[u8], Refusal> {
+/// A sheet at a revision: its bytes, a part of the store, nothing copied, and the last commit up to that revision that named it.
+pub fn read(store: &[u8], revision: u32, sheet: u32) -> Result<Sheet<'_>, Refusal> {
     part(unsafe { ffi::sheets_read(store.as_ptr(), store.len(), revision, sheet) }, store, &[])
 }
 
-/// The bytes that a seat sees: its own, a part of the working copy, where the entry is normal, added or copied; otherwise the last
-/// revision's, a part of the store.
-pub fn show<'a>(store: &'a [u8], copy: &'a [u8], sheet: u32) -> Result<&'a [u8], Refusal> {
-    part(unsafe { ffi::sheets_show(store.as_ptr(), store.len(), copy.as_ptr(), copy.len(), sheet) }, store, copy)
+/// What a seat sees: its own bytes, a part of the working copy, where the entry is normal, added or copied; otherwise the last
+/// revision's, a part of the store, and the last commit that named the sheet.
+pub fn show<'a>(store: &'a [u8], copy: &'a [u8], sheet: u32) -> Result<Shown<'a>, Refusal> {
+    part(unsafe { ffi::sheets_show(store.as_ptr(), store.len(), copy.as_ptr(), copy.len(), sheet) }, store, copy).map(answers::shown)
 }
 
-/// The status of a sheet's entry.
-pub fn status(store: &[u8], copy: &[u8], sheet: u32) -> Result<Status, Refusal> {
-    value(unsafe { ffi::sheets_status(store.as_ptr(), store.len(), copy.as_ptr(), copy.len(), sheet) }).map(answers::status)
+/// The status of a sheet's entry, and the last commit that named the sheet, if one did.
+pub fn status(store: &[u8], copy: &[u8], sheet: u32) -> Result<Standing, Refusal> {
+    answers::standing(unsafe { ffi::sheets_status(store.as_ptr(), store.len(), copy.as_ptr(), copy.len(), sheet) })
 }
 
 /// What a revision is, and what it did to a sheet.
@@ -152,7 +156,7 @@ pub fn log(store: &[u8], revision: u32, sheet: u32) -> Result<LogEntry, Refusal>
 /// place's seat, and for answers that are too short.
 ///
 /// ```
-/// use sheetstore::{self as sheets, Call, Refusal, Reply, Script, ALL, BLOCK, COPIES_LEN, COPY_LEN, RECORD_LEN};
+/// use sheetstore::{self as sheets, Call, Refusal, Reply, Script, Sheet, Shown, ALL, BLOCK, COPIES_LEN, COPY_LEN, RECORD_LEN};
 ///
 /// let (mut store, mut copies) = (vec![0; 32 * BLOCK], vec![0; COPIES_LEN]);
 /// sheets::create_store(&mut store)?;
@@ -168,7 +172,8 @@ pub fn log(store: &[u8], revision: u32, sheet: u32) -> Result<LogEntry, Refusal>
 ///
 /// let mut answers = vec![0; script.len() * RECORD_LEN];
 /// let said: Vec<_> = sheets::replay(&script, &mut store, &mut copies, &mut answers)?.collect();
-/// assert_eq!(said, [Ok(Reply::Done), Ok(Reply::Revision(1)), Ok(Reply::Bytes(b"stop after 30 s")), Err(Refusal::Missing)]);
+/// let shown = Shown::Last(Sheet { bytes: b"stop after 30 s", revision: 1 });
+/// assert_eq!(said, [Ok(Reply::Done), Ok(Reply::Revision(1)), Ok(Reply::Show(shown)), Err(Refusal::Missing)]);
 /// # Ok::<(), Refusal>(())
 /// ```
 pub fn replay<'a>(script: &'a Script, store: &mut [u8], copies: &mut [u8], answers: &'a mut [u8]) -> Result<Answers<'a>, Refusal> {

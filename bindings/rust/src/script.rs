@@ -1,6 +1,6 @@
 //! Lists of calls in bytes, and their answers: the records of `docs/LAYOUT.md`.
 
-use crate::answers::{self, LogEntry, Refusal, Status};
+use crate::answers::{self, LogEntry, Refusal, Sheet, Shown, Standing};
 use crate::ffi;
 use std::iter::Zip;
 use std::slice::ChunksExact;
@@ -160,10 +160,12 @@ pub enum Reply<'a> {
     Done,
     /// The revision of a commit.
     Revision(u32),
-    /// The status of a sheet's entry.
-    Status(Status),
-    /// The bytes of a read or a show: a part of the answers.
-    Bytes(&'a [u8]),
+    /// The sheet that was read. Its bytes are a part of the answers.
+    Read(Sheet<'a>),
+    /// What a seat sees. The bytes are a part of the answers.
+    Show(Shown<'a>),
+    /// The status of a sheet's entry, and the revision to print beside the sheet.
+    Status(Standing),
     /// What log tells.
     Log(LogEntry),
 }
@@ -197,13 +199,13 @@ impl ExactSizeIterator for Answers<'_> {}
 /// The answer of a call of this kind.
 fn reply(kind: u8, record: &[u8]) -> Result<Reply<'_>, Refusal> {
     let number = |at: usize| u32::from_le_bytes([record[at], record[at + 1], record[at + 2], record[at + 3]]);
-    if let Some(refusal) = answers::refused(number(0)) {
-        return Err(refusal);
-    }
+    answers::unless_refused(number(0))?;
+    let sheet = || Sheet { bytes: &record[ANSWER_BYTES_AT..ANSWER_BYTES_AT + number(28) as usize], revision: number(8) };
     Ok(match kind {
         6 => Reply::Revision(number(4)),
-        9 | 10 => Reply::Bytes(&record[ANSWER_BYTES_AT..ANSWER_BYTES_AT + number(28) as usize]),
-        11 => Reply::Status(answers::status(number(4))),
+        9 => Reply::Read(sheet()),
+        10 => Reply::Show(answers::shown(sheet())),
+        11 => Reply::Status(answers::standing(ffi::Standing { refusal: 0, status: number(4), revision: number(8) })?),
         12 => Reply::Log(answers::logged(ffi::LogEntry {
             refusal: 0,
             seat: number(4),

@@ -1,6 +1,6 @@
 //! Every call, every refusal's number, and that read and show hand back parts of the lent buffers.
 
-use sheetstore::{self as sheets, Action, LogEntry, Refusal, Status, ALL, BLOCK, COPY_LEN};
+use sheetstore::{self as sheets, Action, LogEntry, Refusal, Sheet, Shown, Standing, Status, ALL, BLOCK, COPY_LEN};
 
 fn store_of(blocks: usize) -> Vec<u8> {
     let mut store = vec![0x5a; blocks * BLOCK];
@@ -49,9 +49,9 @@ fn read_is_a_part_of_the_store() {
     sheets::edit(&store, &mut copy, 5, b"").unwrap();
     assert_eq!(sheets::commit(&mut store, &mut copy, 8, 1 << 5), Ok(2));
     let (old, new) = (sheets::read(&store, 1, 5).unwrap(), sheets::read(&store, 2, 5).unwrap());
-    assert_eq!((old, new), (&b"A"[..], &b""[..]));
-    assert_eq!(place_in(&store, old), Some(BLOCK + 16));
-    assert_eq!(place_in(&store, new), Some(3 * BLOCK + 16));
+    assert_eq!((old, new), (Sheet { bytes: b"A", revision: 1 }, Sheet { bytes: b"", revision: 2 }));
+    assert_eq!(place_in(&store, old.bytes), Some(BLOCK + 16));
+    assert_eq!(place_in(&store, new.bytes), Some(3 * BLOCK + 16));
     assert_eq!(sheets::read(&store, 0, 5), Err(Refusal::Missing));
     assert_eq!(sheets::read(&store, 3, 5), Err(Refusal::Range));
 }
@@ -61,14 +61,14 @@ fn show_is_a_part_of_either_buffer() {
     let (store, mut copy) = case_input(8);
     sheets::edit(&store, &mut copy, 5, b"mine").unwrap();
     let own = sheets::show(&store, &copy, 5).unwrap();
-    assert_eq!(own, b"mine");
-    assert_eq!(place_in(&copy, own), Some(6 * BLOCK + 16));
+    assert_eq!(own, Shown::Own(b"mine"));
+    assert_eq!(place_in(&copy, own.bytes()), Some(6 * BLOCK + 16));
     sheets::revert(&store, &mut copy, ALL).unwrap();
-    assert_eq!(sheets::show(&store, &copy, 5), Ok(&b"A"[..]));
+    assert_eq!(sheets::show(&store, &copy, 5), Ok(Shown::Own(b"A")));
     sheets::delete(&store, &mut copy, 5).unwrap();
     let last = sheets::show(&store, &copy, 5).unwrap();
-    assert_eq!(last, b"A");
-    assert_eq!(place_in(&store, last), Some(BLOCK + 16));
+    assert_eq!(last, Shown::Last(Sheet { bytes: b"A", revision: 1 }));
+    assert_eq!(place_in(&store, last.bytes()), Some(BLOCK + 16));
     assert_eq!(sheets::show(&store, &copy, 6), Err(Refusal::Missing));
 }
 
@@ -92,23 +92,41 @@ fn log_tells_each_action() {
 fn status_tells_each_state() {
     let (mut store, mut two) = case_input(32);
     let mut one = copy_of(1);
-    let of = |store: &[u8], copy: &[u8], sheet| sheets::status(store, copy, sheet).unwrap();
-    assert_eq!(of(&store, &one, 5), Status::NeedsCheckout);
-    assert_eq!(of(&store, &one, 6), Status::Absent);
+    let of = |store: &[u8], copy: &[u8], sheet| sheets::status(store, copy, sheet).map(|s| (s.status, s.revision)).unwrap();
+    assert_eq!(of(&store, &one, 5), (Status::NeedsCheckout, Some(1)));
+    assert_eq!(of(&store, &one, 6), (Status::Absent, None));
     sheets::update(&store, &mut one, ALL, 1).unwrap();
-    assert_eq!(of(&store, &one, 5), Status::UpToDate);
+    assert_eq!(of(&store, &one, 5), (Status::UpToDate, Some(1)));
     sheets::copy_sheet(&store, &mut one, 5, 6).unwrap();
-    assert_eq!(of(&store, &one, 6), Status::Copied);
+    assert_eq!(of(&store, &one, 6), (Status::Copied, None));
     sheets::add(&store, &mut one, 7, b"").unwrap();
-    assert_eq!(of(&store, &one, 7), Status::Added);
+    assert_eq!(of(&store, &one, 7), (Status::Added, None));
     sheets::edit(&store, &mut two, 5, b"B").unwrap();
-    assert_eq!(of(&store, &two, 5), Status::Modified);
+    assert_eq!(of(&store, &two, 5), (Status::Modified, Some(1)));
     sheets::commit(&mut store, &mut two, 0, ALL).unwrap();
-    assert_eq!(of(&store, &one, 5), Status::NeedsPatch);
+    assert_eq!(of(&store, &one, 5), (Status::NeedsPatch, Some(2)));
     sheets::edit(&store, &mut one, 5, b"C").unwrap();
-    assert_eq!(of(&store, &one, 5), Status::NeedsMerge);
+    assert_eq!(of(&store, &one, 5), (Status::NeedsMerge, Some(2)));
     sheets::delete(&store, &mut one, 5).unwrap();
-    assert_eq!(of(&store, &one, 5), Status::Deleted);
+    assert_eq!(of(&store, &one, 5), (Status::Deleted, Some(2)));
+}
+
+#[test]
+fn a_sheet_has_the_revision_that_named_it_last() {
+    let (mut store, mut two) = case_input(32);
+    let one = copy_of(1);
+    sheets::edit(&store, &mut two, 5, b"B").unwrap();
+    assert_eq!(sheets::commit(&mut store, &mut two, 0, ALL), Ok(2));
+    sheets::copy_sheet(&store, &mut two, 5, 6).unwrap();
+    assert_eq!(sheets::commit(&mut store, &mut two, 0, ALL), Ok(3));
+    let set_by = |store: &[u8], revision, sheet| sheets::read(store, revision, sheet).map(|s| s.revision);
+    assert_eq!([1, 2, 3].map(|revision| set_by(&store, revision, 5)), [Ok(1), Ok(2), Ok(2)]);
+    assert_eq!(set_by(&store, 3, 6), Ok(3));
+    assert_eq!(sheets::show(&store, &one, 5), Ok(Shown::Last(Sheet { bytes: b"B", revision: 2 })));
+    sheets::delete(&store, &mut two, 5).unwrap();
+    assert_eq!(sheets::commit(&mut store, &mut two, 0, ALL), Ok(4));
+    assert_eq!(sheets::status(&store, &one, 5), Ok(Standing { status: Status::Absent, revision: Some(4) }));
+    assert_eq!(set_by(&store, 3, 5), Ok(2));
 }
 
 #[test]
@@ -123,7 +141,7 @@ fn the_same_edit_twice_agrees() {
     sheets::edit(&store, &mut one, 5, b"B").unwrap();
     assert_eq!(sheets::commit(&mut store, &mut one, 0, ALL), Err(Refusal::OutOfDate));
     assert_eq!(sheets::update(&store, &mut one, ALL, 2), Ok(()));
-    assert_eq!(sheets::status(&store, &one, 5), Ok(Status::UpToDate));
+    assert_eq!(sheets::status(&store, &one, 5), Ok(Standing { status: Status::UpToDate, revision: Some(2) }));
     assert_eq!(sheets::commit(&mut store, &mut one, 0, ALL), Err(Refusal::NothingPending));
 }
 

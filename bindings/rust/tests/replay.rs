@@ -1,6 +1,7 @@
 //! Replay: every kind of call and of answer, held to the calls one by one, and the refusals.
 
-use sheetstore::{self as sheets, Action, Call, LogEntry, Refusal, Reply, Script, Status, ALL, BLOCK, COPIES_LEN, COPY_LEN, MAX_BYTES, RECORD_LEN};
+use sheetstore::{self as sheets, Action, Call, LogEntry, Refusal, Reply, Script, Sheet, Shown, Standing, Status};
+use sheetstore::{ALL, BLOCK, COPIES_LEN, COPY_LEN, MAX_BYTES, RECORD_LEN};
 
 fn fresh(blocks: usize) -> (Vec<u8>, Vec<u8>) {
     let (mut store, mut copies) = (vec![0x5a; blocks * BLOCK], vec![0x5a; COPIES_LEN]);
@@ -32,8 +33,8 @@ fn alone<'a>(store: &'a mut [u8], copies: &'a mut [u8], seat: u32, call: Call) -
         Call::Commit { stamp, mask } => sheets::commit(store, copy, stamp, mask).map(Reply::Revision),
         Call::Update { mask, revision } => sheets::update(store, copy, mask, revision).map(|_| Reply::Done),
         Call::Revert { mask } => sheets::revert(store, copy, mask).map(|_| Reply::Done),
-        Call::Read { revision, sheet } => sheets::read(store, revision, sheet).map(Reply::Bytes),
-        Call::Show { sheet } => sheets::show(store, copy, sheet).map(Reply::Bytes),
+        Call::Read { revision, sheet } => sheets::read(store, revision, sheet).map(Reply::Read),
+        Call::Show { sheet } => sheets::show(store, copy, sheet).map(Reply::Show),
         Call::Status { sheet } => sheets::status(store, copy, sheet).map(Reply::Status),
         Call::Log { revision, sheet } => sheets::log(store, revision, sheet).map(Reply::Log),
     }
@@ -54,6 +55,8 @@ fn every_kind() -> Vec<(u32, Call<'static>)> {
         (1, Call::Log { revision: 2, sheet: 6 }),
         (1, Call::Read { revision: 2, sheet: 31 }),
         (2, Call::Show { sheet: 5 }),
+        (2, Call::Show { sheet: 6 }),
+        (2, Call::Status { sheet: 5 }),
         (4, Call::Delete { sheet: 31 }),
         (4, Call::Add { sheet: 0, bytes: &[1; MAX_BYTES] }),
         (3, Call::Edit { sheet: 0, bytes: b"" }),
@@ -72,13 +75,16 @@ fn a_script_is_its_calls_one_by_one() {
         assert_eq!(got, alone(&mut other_store, &mut other_copies, seat, call), "{call:?}");
     }
     assert!(store == other_store && copies == other_copies);
-    assert_eq!(said[4], Ok(Reply::Status(Status::Modified)));
+    assert_eq!(said[4], Ok(Reply::Status(Standing { status: Status::Modified, revision: Some(1) })));
     assert_eq!(said[8], Ok(Reply::Revision(2)));
     let action = Some(Action::Copy { sheet: 5, revision: 1 });
     assert_eq!(said[9], Ok(Reply::Log(LogEntry { seat: 4, stamp: u32::MAX, changes: 3, action })));
-    assert_eq!(said[10], Ok(Reply::Bytes(b"A")));
-    assert_eq!(said[13], Err(Refusal::Range));
-    assert_eq!(said[14], Err(Refusal::Missing));
+    assert_eq!(said[10], Ok(Reply::Read(Sheet { bytes: b"A", revision: 2 })));
+    assert_eq!(said[11], Ok(Reply::Show(Shown::Own(b"A"))));
+    assert_eq!(said[12], Ok(Reply::Show(Shown::Last(Sheet { bytes: b"A", revision: 2 }))));
+    assert_eq!(said[13], Ok(Reply::Status(Standing { status: Status::NeedsPatch, revision: Some(2) })));
+    assert_eq!(said[15], Err(Refusal::Range));
+    assert_eq!(said[16], Err(Refusal::Missing));
     assert_eq!(answers[script.len() * RECORD_LEN..], [0x5a; 3]);
 }
 
@@ -86,7 +92,7 @@ fn a_script_is_its_calls_one_by_one() {
 fn the_answers_know_their_number() {
     let (script, (mut store, mut copies)) = (script_of(&every_kind()), fresh(16));
     let mut answers = vec![0; script.len() * RECORD_LEN];
-    assert_eq!(sheets::replay(&script, &mut store, &mut copies, &mut answers).unwrap().len(), 15);
+    assert_eq!(sheets::replay(&script, &mut store, &mut copies, &mut answers).unwrap().len(), 17);
     assert_eq!(sheets::replay(&Script::new(), &mut store, &mut copies, &mut []).unwrap().len(), 0);
 }
 
