@@ -30,12 +30,12 @@ def answer_record(answer):
     if kind == 'no':
         numbers[0] = rest[0]
     elif kind in ('revision', 'status'):
-        numbers[1] = rest[0]
+        numbers[1:1 + len(rest)] = rest
     elif kind == 'log':
         action, source = rest[3] or (0, None)
         numbers[1:] = *rest[:3], action, *(source or (0, 0))
     elif kind == 'bytes':
-        data = rest[0]
+        data, numbers[2] = rest[0], rest[1] or 0
     return (four(*numbers, len(data)) + data).ljust(RECORD, b'\0')
 
 

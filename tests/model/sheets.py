@@ -1,10 +1,10 @@
-"""A model of document 01, with the requests of document 02 up to W2, in plain data, made apart from the engine: no buffers, no blocks, nothing shared with the
-crates. W1 moves nothing here: it is the order of the blocks, in layout.py. W2 moves update.
+"""A model of document 01, with the requests of document 02 up to W3, in plain data, made apart from the engine: no buffers, no blocks, nothing shared with the
+crates. W1 moves nothing here: it is the order of the blocks, in layout.py. W2 moves update. W3 moves what read, show and status answer.
 
 A tree is a dict from sheet to bytes. A change is (action, bytes, source); a commit is (seat, stamp, {sheet: change}).
 An entry is ('empty',), ('normal', base, bytes), ('added', bytes), ('deleted', base) or ('copied', (sheet, revision), bytes).
-An answer is ('no', number), ('done',), ('revision', R), ('bytes', bytes), ('status', number) or
-('log', seat, stamp, m, change or None), where the change is (action, source or None).
+An answer is ('no', number), ('done',), ('revision', R), ('bytes', bytes, W3's number or None for a seat's own bytes),
+('status', 0 to 8, W3's number) or ('log', seat, stamp, m, change or None), where the change is (action, source or None).
 """
 
 ADD, CHANGE, DELETE, COPY = 1, 2, 3, 4
@@ -39,6 +39,10 @@ class Machine:
             if sheet in self.history[number - 1][2]:
                 return number
         return 0
+
+    def find(self, revision, sheet):
+        """W3: a sheet's bytes in tree R, None if it is absent, and "the number of the last commit up to R that named it, or 0 if none did"."""
+        return self.tree(revision).get(sheet), self.namer(revision, sheet)
 
     # ---- entries
 
@@ -181,26 +185,27 @@ class Machine:
     def do_read(self, entries, seat, revision, sheet):
         if sheet > 31 or revision > self.last():
             return ('no', 7)
-        tree = self.tree(revision)
-        return ('bytes', tree[sheet]) if sheet in tree else ('no', 8)
+        data, number = self.find(revision, sheet)
+        return ('no', 8) if data is None else ('bytes', data, number)
 
     def do_show(self, entries, seat, sheet):
         if sheet > 31:
             return ('no', 7)
         if entries[sheet][0] in ('normal', 'added', 'copied'):
-            return ('bytes', entries[sheet][-1])
+            return ('bytes', entries[sheet][-1], None)
         return self.do_read(entries, seat, self.last(), sheet)
 
     def do_status(self, entries, seat, sheet):
         if sheet > 31:
             return ('no', 7)
-        entry = entries[sheet]
+        entry, (data, number) = entries[sheet], self.find(self.last(), sheet)
         if entry == EMPTY:
-            return ('status', 8 if sheet in self.tree(self.last()) else 0)
-        if entry[0] == 'normal':
-            later = self.namer(self.last(), sheet) > entry[1]
-            return ('status', 1 + self.modified(sheet, entry) + 2 * later)
-        return ('status', {'added': 5, 'deleted': 6, 'copied': 7}[entry[0]])
+            status = 0 if data is None else 8
+        elif entry[0] == 'normal':
+            status = 1 + self.modified(sheet, entry) + 2 * (number > entry[1])
+        else:
+            status = {'added': 5, 'deleted': 6, 'copied': 7}[entry[0]]
+        return ('status', status, number)
 
     def do_log(self, entries, seat, revision, sheet):
         if sheet > 31 or revision == 0 or revision > self.last():
