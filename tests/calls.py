@@ -5,8 +5,8 @@ calls.py [--seed N] [--lists N] [--only K]
 
 For each list a fresh store of 2 to 4,096 blocks and four fresh copies; answers, every byte of every buffer, and reads are compared. Then damage: bytes of the
 buffers changed, resealed or not, blocks exchanged, lengths wrong; the first refusal that holds by tests/model/accept.py must come and nothing may change, and
-where the buffers are accepted all the same, the call must do as the model does. How often updates met what W2 of document 02 is about is printed, and that some
-of it never came is a failure. At the first list that fails its seed and number are printed: `--seed N --only K` runs that list alone.
+where the buffers are accepted all the same, the call must do as the model does. How often the calls met what W2 and W3 of document 02 are about is printed, and
+that some of it never came is a failure. At the first list that fails its seed and number are printed: `--seed N --only K` runs that list alone.
 """
 import pathlib, random, sys
 

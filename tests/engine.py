@@ -1,6 +1,6 @@
 """The engine through its C library, for tests: builds it and wraps each call. Buffers are bytearrays that the calls change in place.
 
-Answers are those of tests/model: ('no', number), ('done',), ('revision', R), ('bytes', bytes), ('status', number), ('log', ..).
+Answers are those of tests/model: ('no', number), ('done',), ('revision', R), ('bytes', bytes, number or None), ('status', 0 to 8, number), ('log', ..).
 """
 import ctypes, os, pathlib, subprocess
 
@@ -13,11 +13,18 @@ class Answer(ctypes.Structure):
 
 
 class Place(ctypes.Structure):
-    _fields_ = [('refusal', u32), ('buffer', u32), ('start', size_t), ('len', size_t)]
+    _fields_ = [('refusal', u32), ('buffer', u32), ('start', size_t), ('len', size_t), ('revision', u32)]
+
+
+class Standing(ctypes.Structure):
+    _fields_ = [('refusal', u32), ('status', u32), ('revision', u32)]
 
 
 class LogEntry(ctypes.Structure):
     _fields_ = [(n, u32) for n in ('refusal', 'seat', 'stamp', 'changes', 'action', 'source_sheet', 'source_revision')]
+
+
+RESULTS = dict(read=Place, show=Place, status=Standing, log=LogEntry)  # of the other calls Answer
 
 
 def build():
@@ -34,9 +41,6 @@ def build():
 class Engine:
     def __init__(self):
         self.library = build()
-        for name, result in dict(read=Place, show=Place, log=LogEntry).items():
-            if hasattr(self.library, 'sheets_' + name):
-                getattr(self.library, 'sheets_' + name).restype = result
 
     @staticmethod
     def lent(buffer):
@@ -46,23 +50,22 @@ class Engine:
         return bytes(buffer), size_t(len(buffer))
 
     def _call(self, name, *args):
+        """What the C call hands back. Refused, all but the refusal is zero."""
         flat = []
         for a in args:
             flat.extend(self.lent(a) if isinstance(a, (bytes, bytearray)) else (u32(a),))
         f = getattr(self.library, 'sheets_' + name)
-        if name not in ('read', 'show', 'log'):
-            f.restype = Answer
-        return f(*flat)
+        f.restype = RESULTS.get(name, Answer)
+        r = f(*flat)
+        assert not r.refusal or not any(getattr(r, field) for field, _ in r._fields_[1:])
+        return r
 
     def _answer(self, name, *args):
         r = self._call(name, *args)
         if r.refusal:
-            assert r.value == 0
             return ('no', r.refusal)
         if name == 'commit':
             return ('revision', r.value)
-        if name == 'status':
-            return ('status', r.value)
         assert r.value == 0
         return ('done',)
 
@@ -73,12 +76,12 @@ class Engine:
         return self._answer('create_copy', copy, seat)
 
     def part(self, name, store, copy, *args):
-        """Where read or show finds the bytes: ('part', 'store' or 'copy', place, length)."""
+        """Where read or show finds the bytes: ('part', 'store', place, length, W3's number), or ('part', 'copy', place, length), which has none."""
         r = self._call(name, store, *(() if name == 'read' else (copy,)), *args)
         if r.refusal:
-            assert (r.buffer, r.start, r.len) == (0, 0, 0)
             return ('no', r.refusal)
-        return ('part', ('store', 'copy')[r.buffer], r.start, r.len)
+        assert (r.buffer, r.revision > 0) in ((0, True), (1, False))
+        return ('part', 'copy', r.start, r.len) if r.buffer else ('part', 'store', r.start, r.len, r.revision)
 
     def read(self, store, revision, sheet):
         return self._bytes('read', store, None, revision, sheet)
@@ -90,8 +93,12 @@ class Engine:
         found = self.part(name, store, copy, *args)
         if found[0] == 'no':
             return found
-        _, buffer, start, length = found
-        return ('bytes', bytes({'store': store, 'copy': copy}[buffer][start:start + length]))
+        _, buffer, start, length, *number = found
+        return ('bytes', bytes({'store': store, 'copy': copy}[buffer][start:start + length]), *(number or [None]))
+
+    def status(self, store, copy, sheet):
+        r = self._call('status', store, copy, sheet)
+        return ('no', r.refusal) if r.refusal else ('status', r.status, r.revision)
 
     def log(self, store, revision, sheet):
         r = self._call('log', store, revision, sheet)
@@ -108,6 +115,6 @@ class Engine:
         """A call as the model names it, on the two buffers."""
         if name in ('read', 'log'):
             return getattr(self, name)(store, *args)
-        if name == 'show':
-            return self.show(store, copy, *args)
+        if name in ('show', 'status'):
+            return getattr(self, name)(store, copy, *args)
         return self._answer(name, store, copy, *args)

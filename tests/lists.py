@@ -48,7 +48,7 @@ def answer(a):
         action, source = a[4] or (0, None)
         return 'logged ' + ' '.join(map(str, (*a[1:4], action, *(source or (0, 0)))))
     if a[0] == 'bytes':
-        return f'bytes {data(a[1])}'
+        return f'bytes {data(a[1])} {a[2] or 0}'
     return {'done': 'done', 'no': 'refused', 'revision': 'revision', 'status': 'status'}[a[0]] + ''.join(f' {x}' for x in a[1:])
 
 
@@ -87,7 +87,7 @@ def from_json(l):
         return (c[0], seat, *(hexed(x) if isinstance(x, str) else x for x in rest))
 
     def said(a):
-        return ('bytes', hexed(a[1])) if a[0] == 'bytes' else tuples(a)
+        return ('bytes', hexed(a[1]), a[2]) if a[0] == 'bytes' else tuples(a)
 
     def change_of(x):
         return (x['action'], hexed(x['data']), tuples(x['source']))
@@ -107,8 +107,15 @@ def from_json(l):
 
 # ---- random calls
 
-W2 = ('modified that agree', 'added that agree', 'copied that agree', 'empty that agree', 'that agree with an older tree alone', 'that agree beside a conflict',
-      'conflicts equal to the last tree alone', 'conflicts of equal length', 'conflicts deleted by both')
+W2, W3 = 'W2, entries of updates', 'W3, numbers'
+COUNTED = {
+    W2: ('modified that agree', 'added that agree', 'copied that agree', 'empty that agree', 'that agree with an older tree alone', 'that agree beside a conflict',
+         'conflicts equal to the last tree alone', 'conflicts of equal length', 'conflicts deleted by both'),
+    W3: ('below R in a read', 'below the newest in a read', 'in a show of an empty entry', 'in a show of a deleted entry', 'none for own bytes of a named sheet',
+         '0 for an absent sheet', 'above 0 for an absent sheet', '0 for an added or copied entry', 'above 0 for an added entry', 'above 0 for a copied entry',
+         'above the base of a normal entry', 'above the base of a deleted entry', 'below the base of an entry', 'of an add', 'of a change', 'of a delete',
+         'of a copy', 'of a sheet that came back', 'below a copy from the sheet'),
+}
 seen = collections.Counter()
 
 
@@ -138,17 +145,59 @@ def met(m, seat, mask, revision):
             yield 'that agree with an older tree alone'
 
 
+def told(m, name, seat, args, answer):
+    """What of W3 the answer of a read, a show or a status has."""
+    sheet, number, entry = args[-1], answer[-1], m.seats[seat][args[-1]]
+    revision, newest = args[0] if name == 'read' else m.last(), m.namer(m.last(), sheet)
+    such = f'{"an" if entry[0][0] in "ae" else "a"} {entry[0]} entry'
+    if number is None:
+        if newest:
+            yield 'none for own bytes of a named sheet'
+        return
+    if name == 'read':
+        if number < revision:
+            yield 'below R in a read'
+        if number < newest:
+            yield 'below the newest in a read'
+    elif name == 'show':
+        yield f'in a show of {such}'
+    elif entry[0] in ('normal', 'deleted'):
+        if number != entry[1]:
+            yield f'above the base of {such}' if number > entry[1] else 'below the base of an entry'
+    elif answer[1] == 0:
+        yield ('above 0' if number else '0') + ' for an absent sheet'
+    elif entry != sheets.EMPTY:
+        yield f'above 0 for {such}' if number else '0 for an added or copied entry'
+    if any(source and source[0] == sheet for _, _, changes in m.history[number:revision] for _, _, source in changes.values()):
+        yield 'below a copy from the sheet'
+    if number:
+        action = m.history[number - 1][2][sheet][0]
+        yield 'of ' + {sheets.ADD: 'an add', sheets.CHANGE: 'a change', sheets.DELETE: 'a delete', sheets.COPY: 'a copy'}[action]
+        if action in (sheets.ADD, sheets.COPY) and m.namer(number - 1, sheet):
+            yield 'of a sheet that came back'
+
+
 def made(m, call):
-    """The model makes the call. What of W2 it meets is counted."""
-    if call[0] == 'update' and call[3] <= m.last():
+    """The model makes the call. What of W2 and W3 it meets is counted."""
+    name, seat, *args = call
+    if name == 'update' and args[1] <= m.last():
         seen.update(met(m, *call[1:]))
-    return m.call(*call)
+    answer = m.call(*call)
+    if answer[0] in ('bytes', 'status'):
+        seen.update(told(m, name, seat, args, answer))
+    return answer
 
 
-def tally(enough):
-    """Prints how often the calls met entries that W2 is about. How many of them never came, where the calls were enough."""
-    never = [what for what in W2 if not seen[what]] if enough else []
-    print('W2, entries of updates: ' + '; '.join(f'{what}: {seen[what]}' for what in W2))
+def unmet(requests):
+    """What of these requests never came."""
+    return [what for request in requests for what in COUNTED[request] if not seen[what]]
+
+
+def tally(enough, requests=COUNTED):
+    """Prints how often the calls met what these requests are about. How much of it never came, where the calls were enough."""
+    never = unmet(requests) if enough else []
+    for request in requests:
+        print(f'{request}: ' + '; '.join(f'{what}: {seen[what]}' for what in COUNTED[request]))
     for what in never:
         print(f'none came: {what}')
     return len(never)
@@ -170,6 +219,8 @@ def random_call(rng, m):
     if m.history and rng.random() < 0.3:
         return same_edit(rng, m)
     name = rng.choice(list(NAMES) + ['add', 'edit', 'commit', 'commit', 'update'])
+    if m.history and name in ('read', 'show', 'status') and rng.random() < 0.6:
+        return look(rng, m)
     sheet = lambda: rng.choice([0, 1, 2, 3, 5, 7, 31, 31, rng.randrange(34)])
     mask = lambda: rng.choice([0xffffffff, rng.getrandbits(32), 1 << sheet() % 32, 0])
     revision = lambda: rng.choice([m.last(), rng.randint(0, m.last() + 1)])
@@ -210,15 +261,24 @@ def same_edit(rng, m):
     return ('add' if entries[sheet] == sheets.EMPTY else 'edit', seat, sheet, bytes(data))
 
 
+def look(rng, m):
+    """A call that shows W3: a seat looks at a sheet that it deletes, that it adds or copies, that a commit named, or that a commit deleted."""
+    seat, tree, named = rng.randint(1, 4), m.tree(m.last()), sorted({i for _, _, changes in m.history for i in changes})
+    gone = [i for i in named if i not in tree]
+    deleted, new = ([i for i, e in enumerate(m.seats[seat]) if e[0] in kinds] for kinds in (['deleted'], ['added', 'copied']))
+    sheet = rng.choice(rng.choice([deleted, new, named, gone]) or named)
+    return rng.choice([('read', seat, rng.randint(1, m.last()), sheet), ('show', seat, sheet), ('status', seat, sheet), ('status', seat, sheet)])
+
+
 def random_list(count, seed):
-    """Random calls by four seats: the seed's first list that has all of W2, if one of twenty has."""
+    """Random calls by four seats: the seed's first list that has all of W2 and W3, if one of twenty has."""
     for n in range(20):
         rng, m, calls, answers = random.Random(f'{seed} {n}'), sheets.Machine(4096), [], []
         seen.clear()
         while len(calls) < count:
             calls.append(random_call(rng, m))
             answers.append(made(m, calls[-1]))
-        if all(seen[what] for what in W2):
+        if not unmet(COUNTED):
             break
     return 4096, calls, answers, m.used, m.history, m.seats
 

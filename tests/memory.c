@@ -3,8 +3,8 @@
  *     memory SEED CALLS heap     pieces from malloc, for valgrind and AddressSanitizer to watch
  *     memory SEED CALLS pages    pieces that end, or start, at a page that cannot be touched; those lent as const lie in pages that cannot be written
  *
- * A refused call must leave its buffers as they were. Exits 1, with the seed and the call's number, if one does not. A touch of a byte outside a
- * piece ends the program.
+ * A refused call must leave its buffers as they were and carry no revision, a part of the store must carry one, and a part of a copy none. Exits 1, with the
+ * seed and the call's number, if that is not so. A touch of a byte outside a piece ends the program.
  */
 #define _DEFAULT_SOURCE
 #include "sheetstore.h"
@@ -97,7 +97,7 @@ static void damage(uint8_t *buffer, size_t *len) {
     if (below(8) != 0) seal(block);
 }
 
-/* One call on pieces of memory with these buffers; what it leaves goes back into them. Answers whether a refused call changed one. */
+/* One call on pieces of memory with these buffers; what it leaves goes back into them. Answers whether a refused call changed one, or an answer is wrong. */
 static bool call(uint8_t *store_at, size_t store_size, uint8_t *copy_at, size_t copy_size) {
     static const uint32_t some[] = {0, 1, 2, 3, 5, 31};
     uint32_t sheet = below(8) ? some[below(6)] : below(34), other = below(8) ? some[below(6)] : below(34);
@@ -118,12 +118,18 @@ static bool call(uint8_t *store_at, size_t store_size, uint8_t *copy_at, size_t 
                                : sheets_move(s.bytes, s.len, c.bytes, c.len, sheet, other).refusal; break;
     case 6: refusal = sheets_update(s.bytes, s.len, c.bytes, c.len, mask, revision).refusal; break;
     case 7: refusal = sheets_revert(s.bytes, s.len, c.bytes, c.len, mask).refusal; break;
-    case 8: refusal = sheets_status(s.bytes, s.len, c.bytes, c.len, sheet).refusal; break;
+    case 8: {
+        sheets_standing standing = sheets_status(s.bytes, s.len, c.bytes, c.len, sheet);
+        refusal = standing.refusal;
+        if (refusal != 0 && (standing.status != 0 || standing.revision != 0)) return true;
+        break;
+    }
     case 9: refusal = sheets_log(s.bytes, s.len, revision, sheet).refusal; break;
     case 10: case 11: {
         sheets_place p = kind == 10 ? sheets_read(s.bytes, s.len, revision, sheet) : sheets_show(s.bytes, s.len, c.bytes, c.len, sheet);
         struct piece in = p.buffer == 0 ? s : c;
         if (p.start > in.len || p.len > in.len - p.start) return true;
+        if ((p.revision != 0) != (p.refusal == 0 && p.buffer == 0)) return true;
         for (size_t i = 0; i < p.len; i++) state += in.bytes[p.start + i]; /* every byte of the part can be read */
         refusal = p.refusal;
         break;
@@ -231,7 +237,7 @@ int main(int argc, char **argv) {
             wrong |= (replays ? replay : call)(store, store_len, copy, copy_len);
         }
         if (wrong) {
-            printf("a buffer is not as it should be: seed %lu, call %lu\n", seed, k);
+            printf("a buffer or an answer is not as it should be: seed %lu, call %lu\n", seed, k);
             return 1;
         }
     }

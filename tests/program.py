@@ -117,7 +117,7 @@ def main():
         for make in (script, long_sheets, limits) if n % 10 == 0 else (script,):
             text = make(rng)
             expect(f'seed {given.seed}, {make.__name__} {n}', text, by_model(text), runs)
-    never = lists.tally(given.inputs >= INPUTS)
+    never = lists.tally(given.inputs >= INPUTS, [lists.W2])
     print(f'{len(samples)} samples, {given.inputs} random inputs, {failed} wrong')
     sys.exit(failed + never != 0 or not samples)
 

@@ -5,7 +5,7 @@ replay.py [--seed N] [--lists N] [--only K]
 
 Lists of random calls by four seats, in several scripts on one desk and in one script on another. What a record has no use for holds anything, and so does what
 the answers have beyond the script. Then damaged buffers and bad scripts: the first refusal by tests/model/accept.py and nothing changed, or the model's run.
-Then every fault alone and every two of them, and the worked script of docs/LAYOUT.md. What updates met of W2 is counted as in tests/calls.py.
+Then every fault alone and every two of them, and the worked script of docs/LAYOUT.md. What the calls met of W2 and W3 is counted as in tests/calls.py.
 At the first list that fails its seed and number are printed: `--seed N --only K` runs that list alone.
 """
 import itertools, pathlib, random, re, sys

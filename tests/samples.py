@@ -1,5 +1,5 @@
 #!/usr/bin/env python3
-"""Lists and calls with known answers, on the engine's C library and on tests/model: samples that were made elsewhere, and lists written by hand from W2.
+"""Lists and calls with known answers, on the engine's C library and on tests/model: samples that were made elsewhere, and lists written by hand from W2 and W3.
 
 samples.py FILE..
 
@@ -115,69 +115,70 @@ def from_cases(engine, path):
             fail(f'{what} leaves other buffers')
 
 
-# ---- W2 by hand
+# ---- W2 and W3 by hand
 
 START = [(('add', 1, 4, b'A'), 'done'), (('add', 1, 5, b'A'), 'done'), (('add', 1, 6, b'A'), 'done'), (('commit', 1, 7, ALL), 'revision 1'),
          (('update', 2, ALL, 1), 'done')]
 BY_HAND = {
+    # W2
     'the same edit': START + [
-        (('edit', 1, 5, b'B'), 'done'), (('edit', 2, 5, b'B'), 'done'), (('status', 2, 5), 'status 2'), (('commit', 1, 8, ALL), 'revision 2'),
-        (('status', 2, 5), 'status 4'), (('commit', 2, 9, ALL), 'no 11'), (('status', 2, 5), 'status 4'),
-        (('update', 2, ALL, 2), 'done'), (('status', 2, 5), 'status 1'), (('commit', 2, 9, ALL), 'no 10'), (('show', 2, 5), ('bytes', b'B'))],
+        (('edit', 1, 5, b'B'), 'done'), (('edit', 2, 5, b'B'), 'done'), (('status', 2, 5), 'status 2 1'), (('commit', 1, 8, ALL), 'revision 2'),
+        (('status', 2, 5), 'status 4 2'), (('commit', 2, 9, ALL), 'no 11'), (('status', 2, 5), 'status 4 2'),
+        (('update', 2, ALL, 2), 'done'), (('status', 2, 5), 'status 1 2'), (('commit', 2, 9, ALL), 'no 10'), (('show', 2, 5), ('bytes', b'B', None))],
     'the same bytes added': [
-        (('add', 1, 5, b'AB'), 'done'), (('add', 2, 5, b'AB'), 'done'), (('status', 2, 5), 'status 5'), (('commit', 1, 7, ALL), 'revision 1'),
-        (('status', 2, 5), 'status 5'), (('commit', 2, 8, ALL), 'no 11'),
-        (('update', 2, ALL, 1), 'done'), (('status', 2, 5), 'status 1'), (('commit', 2, 8, ALL), 'no 10'),
+        (('add', 1, 5, b'AB'), 'done'), (('add', 2, 5, b'AB'), 'done'), (('status', 2, 5), 'status 5 0'), (('commit', 1, 7, ALL), 'revision 1'),
+        (('status', 2, 5), 'status 5 1'), (('commit', 2, 8, ALL), 'no 11'),
+        (('update', 2, ALL, 1), 'done'), (('status', 2, 5), 'status 1 1'), (('commit', 2, 8, ALL), 'no 10'),
         (('edit', 2, 5, b'C'), 'done'), (('commit', 2, 8, ALL), 'revision 2'), (('log', 1, 2, 5), ('log', 2, 8, 1, (2, None)))],
     'copies of the same bytes, one of them edited': START + [
         (('copy', 2, 5, 8), 'done'), (('copy', 2, 5, 9), 'done'), (('edit', 2, 9, b'C'), 'done'),
         (('add', 1, 8, b'A'), 'done'), (('add', 1, 9, b'C'), 'done'), (('commit', 1, 8, ALL), 'revision 2'),
-        (('status', 2, 8), 'status 7'), (('status', 2, 9), 'status 7'), (('commit', 2, 9, ALL), 'no 11'),
-        (('update', 2, ALL, 2), 'done'), (('status', 2, 8), 'status 1'), (('status', 2, 9), 'status 1'), (('commit', 2, 9, ALL), 'no 10'),
+        (('status', 2, 8), 'status 7 2'), (('status', 2, 9), 'status 7 2'), (('commit', 2, 9, ALL), 'no 11'),
+        (('update', 2, ALL, 2), 'done'), (('status', 2, 8), 'status 1 2'), (('status', 2, 9), 'status 1 2'), (('commit', 2, 9, ALL), 'no 10'),
         (('edit', 2, 8, b'D'), 'done'), (('commit', 2, 9, ALL), 'revision 3'), (('log', 1, 3, 8), ('log', 2, 9, 1, (2, None)))],
     'copies by both, from other sheets': START + [
         (('copy', 1, 6, 8), 'done'), (('copy', 2, 5, 8), 'done'), (('commit', 1, 8, ALL), 'revision 2'), (('log', 1, 2, 8), ('log', 1, 8, 1, (4, (6, 1)))),
-        (('update', 2, ALL, 2), 'done'), (('status', 2, 8), 'status 1'), (('delete', 2, 8), 'done'), (('status', 2, 8), 'status 6')],
+        (('update', 2, ALL, 2), 'done'), (('status', 2, 8), 'status 1 2'), (('delete', 2, 8), 'done'), (('status', 2, 8), 'status 6 2')],
     'an older tree': START + [
         (('edit', 1, 5, b'B'), 'done'), (('commit', 1, 8, ALL), 'revision 2'), (('edit', 1, 5, b'C'), 'done'), (('commit', 1, 9, ALL), 'revision 3'),
-        (('edit', 2, 5, b'B'), 'done'), (('update', 2, ALL, 3), 'no 12'), (('update', 2, ALL, 2), 'done'), (('status', 2, 5), 'status 3'),
-        (('show', 2, 5), ('bytes', b'B')), (('commit', 2, 10, ALL), 'no 10'),
-        (('update', 3, ALL, 1), 'done'), (('edit', 3, 5, b'C'), 'done'), (('update', 3, ALL, 2), 'no 12'), (('status', 3, 5), 'status 4'),
-        (('update', 3, ALL, 3), 'done'), (('status', 3, 5), 'status 1'), (('edit', 3, 5, b'A'), 'done'), (('update', 3, ALL, 2), 'no 12'),
-        (('update', 3, ALL, 1), 'done'), (('status', 3, 5), 'status 3'), (('show', 3, 5), ('bytes', b'A')),
-        (('add', 4, 5, b'B'), 'done'), (('update', 4, ALL, 3), 'no 12'), (('update', 4, ALL, 1), 'no 12'), (('status', 4, 5), 'status 5'),
-        (('update', 4, ALL, 2), 'done'), (('status', 4, 5), 'status 3')],
+        (('edit', 2, 5, b'B'), 'done'), (('update', 2, ALL, 3), 'no 12'), (('update', 2, ALL, 2), 'done'), (('status', 2, 5), 'status 3 3'),
+        (('show', 2, 5), ('bytes', b'B', None)), (('commit', 2, 10, ALL), 'no 10'),
+        (('update', 3, ALL, 1), 'done'), (('edit', 3, 5, b'C'), 'done'), (('update', 3, ALL, 2), 'no 12'), (('status', 3, 5), 'status 4 3'),
+        (('update', 3, ALL, 3), 'done'), (('status', 3, 5), 'status 1 3'), (('edit', 3, 5, b'A'), 'done'), (('update', 3, ALL, 2), 'no 12'),
+        (('update', 3, ALL, 1), 'done'), (('status', 3, 5), 'status 3 3'), (('show', 3, 5), ('bytes', b'A', None)),
+        (('add', 4, 5, b'B'), 'done'), (('update', 4, ALL, 3), 'no 12'), (('update', 4, ALL, 1), 'no 12'), (('status', 4, 5), 'status 5 3'),
+        (('update', 4, ALL, 2), 'done'), (('status', 4, 5), 'status 3 3')],
     'deleted by both': START + [
-        (('delete', 1, 5), 'done'), (('delete', 2, 5), 'done'), (('commit', 1, 8, ALL), 'revision 2'), (('status', 2, 5), 'status 6'),
-        (('commit', 2, 9, ALL), 'no 11'), (('update', 2, ALL, 2), 'no 12'), (('status', 2, 5), 'status 6'),
+        (('delete', 1, 5), 'done'), (('delete', 2, 5), 'done'), (('commit', 1, 8, ALL), 'revision 2'), (('status', 2, 5), 'status 6 2'),
+        (('commit', 2, 9, ALL), 'no 11'), (('update', 2, ALL, 2), 'no 12'), (('status', 2, 5), 'status 6 2'),
         (('delete', 2, 6), 'done'), (('edit', 1, 6, b''), 'done'), (('commit', 1, 9, ALL), 'revision 3'), (('update', 2, 1 << 6, 3), 'no 12'),
-        (('revert', 2, ALL), 'done'), (('update', 2, ALL, 3), 'done'), (('status', 2, 5), 'status 0'), (('status', 2, 6), 'status 1')],
+        (('revert', 2, ALL), 'done'), (('update', 2, ALL, 3), 'done'), (('status', 2, 5), 'status 0 2'), (('status', 2, 6), 'status 1 3')],
     'empty sheets': [
         (('add', 1, 5, b''), 'done'), (('add', 2, 5, b''), 'done'), (('add', 3, 5, b'\0'), 'done'), (('commit', 1, 7, ALL), 'revision 1'),
-        (('update', 2, ALL, 1), 'done'), (('status', 2, 5), 'status 1'), (('show', 2, 5), ('bytes', b'')), (('update', 3, ALL, 1), 'no 12'),
-        (('edit', 3, 5, b''), 'done'), (('update', 3, ALL, 1), 'done'), (('status', 3, 5), 'status 1'),
+        (('update', 2, ALL, 1), 'done'), (('status', 2, 5), 'status 1 1'), (('show', 2, 5), ('bytes', b'', None)), (('update', 3, ALL, 1), 'no 12'),
+        (('edit', 3, 5, b''), 'done'), (('update', 3, ALL, 1), 'done'), (('status', 3, 5), 'status 1 1'),
         (('edit', 1, 5, b'A'), 'done'), (('commit', 1, 8, ALL), 'revision 2'), (('update', 2, ALL, 2), 'done'),
-        (('edit', 1, 5, b''), 'done'), (('commit', 1, 9, ALL), 'revision 3'), (('edit', 2, 5, b''), 'done'), (('status', 2, 5), 'status 4'),
-        (('update', 2, ALL, 3), 'done'), (('status', 2, 5), 'status 1')],
+        (('edit', 1, 5, b''), 'done'), (('commit', 1, 9, ALL), 'revision 3'), (('edit', 2, 5, b''), 'done'), (('status', 2, 5), 'status 4 3'),
+        (('update', 2, ALL, 3), 'done'), (('status', 2, 5), 'status 1 3')],
     'empty bytes beside an absent sheet': START + [
-        (('add', 2, 8, b''), 'done'), (('update', 2, 1 << 8, 1), 'done'), (('status', 2, 8), 'status 5'),
-        (('update', 2, 1 << 8, 0), 'done'), (('status', 2, 8), 'status 5'),
-        (('copy', 2, 6, 9), 'done'), (('edit', 2, 9, b''), 'done'), (('update', 2, 1 << 9, 1), 'done'), (('status', 2, 9), 'status 7'),
+        (('add', 2, 8, b''), 'done'), (('update', 2, 1 << 8, 1), 'done'), (('status', 2, 8), 'status 5 0'),
+        (('update', 2, 1 << 8, 0), 'done'), (('status', 2, 8), 'status 5 0'),
+        (('copy', 2, 6, 9), 'done'), (('edit', 2, 9, b''), 'done'), (('update', 2, 1 << 9, 1), 'done'), (('status', 2, 9), 'status 7 0'),
         (('commit', 2, 8, 1 << 8 | 1 << 9), 'revision 2'), (('log', 1, 2, 8), ('log', 2, 8, 2, (1, None))), (('log', 1, 2, 9), ('log', 2, 8, 2, (4, (6, 1)))),
-        (('delete', 1, 5), 'done'), (('commit', 1, 9, ALL), 'revision 3'), (('edit', 2, 5, b''), 'done'), (('status', 2, 5), 'status 4'),
+        (('delete', 1, 5), 'done'), (('commit', 1, 9, ALL), 'revision 3'), (('edit', 2, 5, b''), 'done'), (('status', 2, 5), 'status 4 3'),
         (('update', 2, 1 << 5, 3), 'no 12'), (('update', 2, 1 << 5, 0), 'no 12')],
     'beside a conflict': START + [
         (('edit', 1, 4, b'B'), 'done'), (('edit', 1, 5, b'B'), 'done'), (('edit', 1, 6, b'B'), 'done'), (('commit', 1, 8, ALL), 'revision 2'),
         (('edit', 2, 4, b'C'), 'done'), (('edit', 2, 5, b'B'), 'done'), (('edit', 2, 6, b'C'), 'done'),
         (('update', 2, ALL, 2), 'no 12'), (('update', 2, 1 << 4 | 1 << 5, 2), 'no 12'), (('update', 2, 1 << 5 | 1 << 6, 2), 'no 12'),
-        (('status', 2, 5), 'status 4'), (('update', 2, 1 << 5, 2), 'done'), (('status', 2, 5), 'status 1'), (('status', 2, 4), 'status 4'),
-        (('edit', 2, 4, b'B'), 'done'), (('update', 2, 1 << 5, 2), 'done'), (('status', 2, 4), 'status 4'),
-        (('update', 2, 1 << 4 | 1 << 5, 2), 'done'), (('status', 2, 4), 'status 1'), (('status', 2, 6), 'status 4')],
+        (('status', 2, 5), 'status 4 2'), (('update', 2, 1 << 5, 2), 'done'), (('status', 2, 5), 'status 1 2'), (('status', 2, 4), 'status 4 2'),
+        (('edit', 2, 4, b'B'), 'done'), (('update', 2, 1 << 5, 2), 'done'), (('status', 2, 4), 'status 4 2'),
+        (('update', 2, 1 << 4 | 1 << 5, 2), 'done'), (('status', 2, 4), 'status 1 2'), (('status', 2, 6), 'status 4 2')],
     'all kinds at once': START + [
         (('edit', 1, 5, b'B'), 'done'), (('add', 1, 8, b'C'), 'done'), (('add', 1, 9, b'A'), 'done'), (('commit', 1, 8, ALL), 'revision 2'),
         (('edit', 2, 5, b'B'), 'done'), (('add', 2, 8, b'C'), 'done'), (('copy', 2, 6, 9), 'done'), (('add', 2, 10, b'D'), 'done'), (('edit', 2, 4, b'E'), 'done'),
-        (('update', 2, ALL, 2), 'done'), (('status', 2, 5), 'status 1'), (('status', 2, 8), 'status 1'), (('status', 2, 9), 'status 1'),
-        (('status', 2, 10), 'status 5'), (('status', 2, 4), 'status 2'), (('commit', 2, 9, ALL ^ (1 << 4 | 1 << 10)), 'no 10'),
+        (('update', 2, ALL, 2), 'done'), (('status', 2, 5), 'status 1 2'), (('status', 2, 8), 'status 1 2'), (('status', 2, 9), 'status 1 2'),
+        (('status', 2, 10), 'status 5 0'), (('status', 2, 4), 'status 2 1'), (('commit', 2, 9, ALL ^ (1 << 4 | 1 << 10)), 'no 10'),
         (('commit', 2, 9, ALL), 'revision 3'), (('log', 1, 3, 4), ('log', 2, 9, 2, (2, None)))],
     'other bytes': START + [
         (('edit', 1, 5, b'AB'), 'done'), (('commit', 1, 8, ALL), 'revision 2'),
@@ -186,6 +187,97 @@ BY_HAND = {
         (('edit', 1, 5, b'x' * 480), 'done'), (('commit', 1, 9, ALL), 'revision 3'),
         (('edit', 2, 5, b'x' * 479), 'done'), (('update', 2, ALL, 3), 'no 12'), (('edit', 2, 5, b'x' * 479 + b'y'), 'done'), (('update', 2, ALL, 3), 'no 12'),
         (('edit', 2, 5, b'y' + b'x' * 479), 'done'), (('update', 2, ALL, 3), 'no 12'), (('edit', 2, 5, b'x' * 480), 'done'), (('update', 2, ALL, 3), 'done')],
+    # W3
+    'added, changed, deleted, added again': [
+        (('status', 3, 5), 'status 0 0'), (('read', 1, 0, 5), 'no 8'), (('show', 3, 5), 'no 8'),
+        (('add', 1, 5, b'A'), 'done'), (('status', 1, 5), 'status 5 0'), (('status', 3, 5), 'status 0 0'), (('show', 1, 5), ('bytes', b'A', None)),
+        (('commit', 1, 7, ALL), 'revision 1'), (('status', 1, 5), 'status 1 1'), (('status', 3, 5), 'status 8 1'), (('read', 1, 1, 5), ('bytes', b'A', 1)),
+        (('edit', 1, 5, b'B'), 'done'), (('status', 1, 5), 'status 2 1'), (('commit', 1, 8, ALL), 'revision 2'), (('status', 1, 5), 'status 1 2'),
+        (('status', 3, 5), 'status 8 2'), (('read', 1, 2, 5), ('bytes', b'B', 2)), (('read', 1, 1, 5), ('bytes', b'A', 1)), (('show', 3, 5), ('bytes', b'B', 2)),
+        (('delete', 1, 5), 'done'), (('status', 1, 5), 'status 6 2'), (('show', 1, 5), ('bytes', b'B', 2)),
+        (('commit', 1, 9, ALL), 'revision 3'), (('status', 1, 5), 'status 0 3'), (('status', 3, 5), 'status 0 3'), (('read', 1, 3, 5), 'no 8'),
+        (('show', 3, 5), 'no 8'),
+        (('add', 1, 5, b'C'), 'done'), (('status', 1, 5), 'status 5 3'), (('commit', 1, 10, ALL), 'revision 4'), (('status', 1, 5), 'status 1 4'),
+        (('status', 3, 5), 'status 8 4'), (('read', 1, 4, 5), ('bytes', b'C', 4)), (('read', 1, 3, 5), 'no 8'), (('read', 1, 2, 5), ('bytes', b'B', 2)),
+        (('read', 1, 1, 5), ('bytes', b'A', 1)), (('read', 1, 0, 5), 'no 8'), (('read', 1, 5, 5), 'no 7'), (('status', 1, 32), 'no 7')],
+    'copied and moved': START + [
+        (('copy', 1, 5, 8), 'done'), (('status', 1, 8), 'status 7 0'), (('commit', 1, 8, ALL), 'revision 2'), (('status', 1, 8), 'status 1 2'),
+        (('status', 1, 5), 'status 1 1'), (('status', 3, 5), 'status 8 1'), (('read', 1, 2, 8), ('bytes', b'A', 2)), (('read', 1, 2, 5), ('bytes', b'A', 1)),
+        (('copy', 1, 6, 9), 'done'), (('edit', 1, 9, b'B'), 'done'), (('commit', 1, 9, ALL), 'revision 3'), (('read', 1, 3, 9), ('bytes', b'B', 3)),
+        (('read', 1, 3, 6), ('bytes', b'A', 1)), (('status', 2, 6), 'status 1 1'),
+        (('move', 1, 5, 10), 'done'), (('status', 1, 5), 'status 6 1'), (('status', 1, 10), 'status 7 0'), (('commit', 1, 10, ALL), 'revision 4'),
+        (('status', 1, 5), 'status 0 4'), (('status', 1, 10), 'status 1 4'), (('status', 2, 5), 'status 3 4'), (('read', 1, 4, 10), ('bytes', b'A', 4)),
+        (('read', 1, 4, 5), 'no 8'), (('read', 1, 3, 5), ('bytes', b'A', 1)), (('read', 1, 4, 8), ('bytes', b'A', 2)),
+        (('move', 1, 10, 5), 'done'), (('status', 1, 5), 'status 7 4'), (('commit', 1, 11, ALL), 'revision 5'), (('status', 1, 5), 'status 1 5'),
+        (('status', 1, 10), 'status 0 5'), (('read', 1, 5, 5), ('bytes', b'A', 5)), (('read', 1, 4, 10), ('bytes', b'A', 4)),
+        (('copy', 2, 5, 11), 'done'), (('commit', 2, 12, ALL), 'revision 6'), (('log', 1, 6, 11), ('log', 2, 12, 1, (4, (5, 1)))),
+        (('read', 1, 6, 11), ('bytes', b'A', 6)), (('read', 1, 6, 5), ('bytes', b'A', 5))],
+    'every status': START + [
+        (('status', 2, 0), 'status 0 0'), (('status', 3, 4), 'status 8 1'), (('status', 2, 4), 'status 1 1'), (('edit', 2, 4, b'B'), 'done'),
+        (('status', 2, 4), 'status 2 1'),
+        (('edit', 1, 5, b'B'), 'done'), (('commit', 1, 8, ALL), 'revision 2'), (('status', 2, 5), 'status 3 2'), (('edit', 2, 5, b'C'), 'done'),
+        (('status', 2, 5), 'status 4 2'), (('delete', 2, 5), 'done'), (('status', 2, 5), 'status 6 2'), (('delete', 2, 6), 'done'),
+        (('status', 2, 6), 'status 6 1'),
+        (('add', 3, 5, b'D'), 'done'), (('status', 3, 5), 'status 5 2'), (('add', 3, 9, b'D'), 'done'), (('status', 3, 9), 'status 5 0'),
+        (('copy', 1, 5, 9), 'done'), (('status', 1, 9), 'status 7 0'), (('update', 3, 1 << 6, 1), 'done'), (('copy', 3, 6, 4), 'done'),
+        (('status', 3, 4), 'status 7 1'),
+        (('delete', 1, 6), 'done'), (('commit', 1, 9, 1 << 6), 'revision 3'), (('status', 1, 6), 'status 0 3'), (('status', 4, 6), 'status 0 3'),
+        (('status', 2, 6), 'status 6 3'), (('status', 3, 6), 'status 3 3'), (('edit', 3, 6, b'E'), 'done'), (('status', 3, 6), 'status 4 3'),
+        (('add', 4, 6, b'F'), 'done'), (('status', 4, 6), 'status 5 3'), (('copy', 1, 4, 6), 'done'), (('status', 1, 6), 'status 7 3')],
+    'older bases': START + [
+        (('edit', 1, 5, b'B'), 'done'), (('commit', 1, 8, ALL), 'revision 2'), (('edit', 1, 4, b'B'), 'done'), (('commit', 1, 9, ALL), 'revision 3'),
+        (('edit', 1, 5, b'C'), 'done'), (('commit', 1, 10, ALL), 'revision 4'),
+        (('status', 2, 4), 'status 3 3'), (('status', 2, 5), 'status 3 4'), (('status', 2, 6), 'status 1 1'),
+        (('update', 2, ALL, 2), 'done'), (('status', 2, 4), 'status 3 3'), (('status', 2, 5), 'status 3 4'), (('status', 2, 6), 'status 1 1'),
+        (('update', 2, ALL, 3), 'done'), (('status', 2, 4), 'status 1 3'), (('status', 2, 5), 'status 3 4'), (('show', 2, 5), ('bytes', b'B', None)),
+        (('update', 2, ALL, 4), 'done'), (('status', 2, 4), 'status 1 3'), (('status', 2, 5), 'status 1 4'), (('status', 2, 6), 'status 1 1'),
+        (('update', 2, ALL, 0), 'done'), (('status', 2, 4), 'status 8 3'), (('status', 2, 5), 'status 8 4'), (('show', 2, 5), ('bytes', b'C', 4)),
+        (('update', 2, ALL, 1), 'done'), (('status', 2, 5), 'status 3 4'), (('show', 2, 5), ('bytes', b'A', None)), (('edit', 2, 6, b'D'), 'done'),
+        (('update', 2, 1 << 6, 4), 'done'), (('status', 2, 6), 'status 2 1'), (('revert', 2, ALL), 'done'), (('status', 2, 6), 'status 1 1'),
+        (('status', 2, 5), 'status 3 4')],
+    'read at every revision': START + [
+        (('edit', 1, 5, b'B'), 'done'), (('commit', 1, 8, ALL), 'revision 2'), (('edit', 1, 6, b'B'), 'done'), (('commit', 1, 9, ALL), 'revision 3'),
+        (('delete', 1, 5), 'done'), (('commit', 1, 10, ALL), 'revision 4'), (('edit', 1, 6, b'C'), 'done'), (('commit', 1, 11, ALL), 'revision 5'),
+        (('add', 1, 5, b'D'), 'done'), (('commit', 1, 12, ALL), 'revision 6'),
+        *((('read', 1, r, 4), ('bytes', b'A', 1)) for r in (1, 2, 3, 4, 5, 6)),
+        (('read', 1, 1, 5), ('bytes', b'A', 1)), (('read', 1, 2, 5), ('bytes', b'B', 2)), (('read', 1, 3, 5), ('bytes', b'B', 2)), (('read', 1, 4, 5), 'no 8'),
+        (('read', 1, 5, 5), 'no 8'), (('read', 1, 6, 5), ('bytes', b'D', 6)),
+        (('read', 1, 1, 6), ('bytes', b'A', 1)), (('read', 1, 2, 6), ('bytes', b'A', 1)), (('read', 1, 3, 6), ('bytes', b'B', 3)),
+        (('read', 1, 4, 6), ('bytes', b'B', 3)), (('read', 1, 5, 6), ('bytes', b'C', 5)), (('read', 1, 6, 6), ('bytes', b'C', 5))],
+    'shown from the store and from the copy': START + [
+        (('show', 3, 5), ('bytes', b'A', 1)), (('show', 2, 5), ('bytes', b'A', None)), (('delete', 2, 5), 'done'), (('show', 2, 5), ('bytes', b'A', 1)),
+        (('edit', 1, 5, b'B'), 'done'), (('show', 1, 5), ('bytes', b'B', None)), (('commit', 1, 8, ALL), 'revision 2'), (('show', 1, 5), ('bytes', b'B', None)),
+        (('show', 2, 5), ('bytes', b'B', 2)), (('show', 3, 5), ('bytes', b'B', 2)), (('show', 3, 4), ('bytes', b'A', 1)),
+        (('update', 3, 1 << 5, 1), 'done'), (('show', 3, 5), ('bytes', b'A', None)), (('add', 4, 5, b'X'), 'done'), (('show', 4, 5), ('bytes', b'X', None)),
+        (('copy', 2, 4, 9), 'done'), (('show', 2, 9), ('bytes', b'A', None)), (('show', 4, 9), 'no 8'),
+        (('delete', 1, 5), 'done'), (('commit', 1, 9, ALL), 'revision 3'), (('show', 1, 5), 'no 8'), (('show', 2, 5), 'no 8'),
+        (('show', 3, 5), ('bytes', b'A', None)),
+        (('add', 1, 5, b''), 'done'), (('commit', 1, 10, ALL), 'revision 4'), (('show', 1, 5), ('bytes', b'', None)), (('show', 2, 5), ('bytes', b'', 4)),
+        (('read', 1, 4, 5), ('bytes', b'', 4))],
+    'commits that do not name the sheet': START + [
+        (('edit', 1, 4, b'B'), 'done'), (('commit', 1, 8, ALL), 'revision 2'), (('status', 2, 5), 'status 1 1'), (('read', 1, 2, 5), ('bytes', b'A', 1)),
+        (('show', 3, 5), ('bytes', b'A', 1)),
+        (('edit', 2, 4, b'C'), 'done'), (('commit', 2, 9, ALL), 'no 11'), (('status', 2, 4), 'status 4 2'), (('status', 1, 4), 'status 1 2'),
+        (('read', 1, 2, 4), ('bytes', b'B', 2)), (('update', 2, ALL, 2), 'no 12'), (('status', 2, 4), 'status 4 2'),
+        (('commit', 1, 9, ALL), 'no 10'), (('commit', 1, 9, 0), 'no 7'), (('status', 1, 4), 'status 1 2'), (('status', 1, 5), 'status 1 1'),
+        (('edit', 1, 5, b'B'), 'done'), (('edit', 1, 6, b'B'), 'done'), (('commit', 1, 9, 1 << 6), 'revision 3'), (('status', 1, 5), 'status 2 1'),
+        (('status', 1, 6), 'status 1 3'), (('commit', 1, 10, ALL), 'revision 4'), (('status', 1, 4), 'status 1 2'), (('status', 1, 5), 'status 1 4'),
+        (('status', 1, 6), 'status 1 3'), (('edit', 1, 4, b'B'), 'done'), (('commit', 1, 11, ALL), 'no 10'), (('status', 1, 4), 'status 1 2'),
+        (('read', 1, 4, 4), ('bytes', b'B', 2)), (('read', 1, 4, 5), ('bytes', b'B', 4)), (('read', 1, 4, 6), ('bytes', b'B', 3))],
+    'no room': START + [
+        *((('add', 4, i, b'X'), 'done') for i in range(7, 32)), (('commit', 4, 8, ALL), 'revision 2'), (('status', 4, 31), 'status 1 2'),
+        (('edit', 1, 5, b'B'), 'done'), (('commit', 1, 9, ALL), 'no 13'), (('status', 1, 5), 'status 2 1'), (('read', 1, 2, 5), ('bytes', b'A', 1)),
+        (('delete', 1, 4), 'done'), (('commit', 1, 9, 1 << 4), 'revision 3'), (('status', 1, 4), 'status 0 3'), (('status', 2, 4), 'status 3 3'),
+        (('delete', 1, 6), 'done'), (('commit', 1, 10, 1 << 6), 'no 13'), (('status', 1, 6), 'status 6 1'), (('status', 2, 6), 'status 1 1'),
+        (('read', 1, 3, 6), ('bytes', b'A', 1)), (('read', 1, 2, 4), ('bytes', b'A', 1))],
+}
+LONG = {  # on a larger store
+    'past revision 255': START + [
+        *((c, said) for r in range(2, 256) for c, said in ((('edit', 1, 4, b'%d' % r), 'done'), (('commit', 1, r, ALL), f'revision {r}'))),
+        (('edit', 1, 5, b'B'), 'done'), (('commit', 1, 8, ALL), 'revision 256'), (('edit', 1, 4, b'B'), 'done'), (('commit', 1, 9, ALL), 'revision 257'),
+        (('status', 2, 4), 'status 3 257'), (('status', 2, 5), 'status 3 256'), (('status', 2, 6), 'status 1 1'), (('show', 3, 5), ('bytes', b'B', 256)),
+        (('read', 1, 257, 5), ('bytes', b'B', 256)), (('read', 1, 255, 5), ('bytes', b'A', 1)), (('read', 1, 256, 4), ('bytes', b'255', 255)),
+        (('read', 1, 257, 4), ('bytes', b'B', 257)), (('read', 1, 257, 6), ('bytes', b'A', 1))],
 }
 
 
@@ -196,10 +288,11 @@ def in_words(text):
 
 
 def from_hand(engine):
-    for what, rows in BY_HAND.items():
+    for what, rows in (BY_HAND | LONG).items():
+        blocks = 600 if what in LONG else 32
         some, answers = zip(*((c, in_words(said) if isinstance(said, str) else said) for c, said in rows))
-        desk = by_calls(engine, what, 32, some, answers)
-        by_script(engine, what, 32, some, answers).held_to(f'{what} as a script', desk.model)
+        desk = by_calls(engine, what, blocks, some, answers)
+        by_script(engine, what, blocks, some, answers).held_to(f'{what} as a script', desk.model)
 
 
 def main():
