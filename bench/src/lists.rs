@@ -74,12 +74,14 @@ pub fn each(blocks: usize, acceptance: f64) {
     let one = after(&store, &fresh, &script((1..=4).map(|k| (ADD, k, 0, 0, vec![7; 480]))));
     let many = |kind, a, b| script((0..128).map(|_| (kind, 1, a, b, vec![])));
     let edit = |j: u32| (EDIT, 1, sheet, 0, vec![j as u8 + 8; 480]);
+    let edited = after(&store, &whole, &script([edit(0)]));
     let edits = script((0..commits as u32).map(edit));
     let pairs = script((0..commits as u32).flat_map(|j| [edit(j), (COMMIT, 1, 7, u32::MAX, vec![])]));
     let lists: Vec<(&str, &[u8], Script)> = vec![
         ("read", &whole, many(READ, last, sheet)),
         ("log", &whole, many(LOG, last, sheet)),
         ("status", &whole, many(STATUS, sheet, 0)),
+        ("status of an added sheet", &added, many(STATUS, sheet, 0)),
         ("show", &whole, many(SHOW, sheet, 0)),
         ("add", &fresh, adds.clone()),
         ("edit", &whole, script((0..128).map(edit))),
@@ -87,6 +89,7 @@ pub fn each(blocks: usize, acceptance: f64) {
         ("copy", &one, script(everywhere().filter(|&(_, i)| i != 0).map(|(k, i)| (COPY_SHEET, k, 0, i, vec![])))),
         ("move", &one, script((0..128).map(|j| (MOVE, 1, j % 2, 1 - j % 2, vec![])))),
         ("update of all sheets, to 1 and to the last", &whole, script((0..64).flat_map(|_| [1, last]).map(|r| (UPDATE, 1, u32::MAX, r, vec![])))),
+        ("update of one modified sheet", &edited, many(UPDATE, 1 << sheet, last)),
         ("revert of one sheet", &whole, many(REVERT, 1 << sheet, 0)),
     ];
     let (empty, desk) = (Script::default(), Desk::new());

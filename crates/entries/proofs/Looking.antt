@@ -1,4 +1,4 @@
--- What a search in an accepted store says of the history: whether a tree has a sheet, and which commit names it last.
+-- What a search in an accepted store says of the history: whether a tree has a sheet, which block holds it, and which commit names it last.
 -- Assumes nothing.
 use Prim.Native.Nat.{_*_, _+_, _<_, _≤_, ℕ}
 use mathlib.Core.Bool.{false, not}
@@ -12,9 +12,9 @@ use lib.Dec.{eqb, leb, ltb}
 use lib.ListN.{List·getD-eq-default, drop, length, take}
 use Rattle.block.proofs.Says.{eq-or}
 use Rattle.model.specs.Blocks.{bytesAt}
+use Rattle.model.specs.Calls.{storeConditions}
 use Rattle.model.specs.Fitting.{has}
 use Rattle.model.specs.History.{Bytes, Change, History, Tree, applied, last, namedAfter, namer, newest, present, sheet, tree, treeFrom, tree₀}
-use Rattle.model.specs.Calls.{storeConditions}
 use Rattle.model.specs.Refusals.{firstOf}
 use Rattle.model.specs.Store.{blockCount, storeBlocks, storeHistory}
 use Rattle.model.specs.declared.Span.{Span}
@@ -89,6 +89,7 @@ module _ (store : Bytes) (v : View) (o : Opened store v) where
     pub found-inside : {f : Found} → f ≡ foundIn store r i → f .block < blockCount store
     found-inside e = subst (λ (f : Found). f .block < blockCount store) (sym e) (block-inside store (v .n) (v .used) (o .accepted) r i .0)
 
+    -- so it holds what the tree has
     pub holding-found : {f : Found} → f ≡ foundIn store r i → Holding store (sheet (storeHistory store) r i) (f .block)
     holding-found {f} e = record {
       holds =

@@ -284,7 +284,7 @@ fn taken(p: usize) -> Update
     Update::Take(p)
 }
 
-// A pending entry whose bytes equal tree r's, which block p holds, is taken from there; any other is a conflict.
+// A pending entry whose bytes are those that block p holds is taken from there; any other is a conflict.
 fn agreed<'a>(store: &'a [u8], copy: &'a [u8], i: usize, p: usize) -> Update
     requires { ⌜ (firstOf (storeConditions (now store)) ≡ none) × CopyAccepted (now copy) × (i < 32) × (p < blockCount (now store)) ⌝ }
     ensures { λ x. ⌜ x ≡ agreedAs (isBytes (bytesOf (now (copy .entry)) i) (heldIn (now (store .entry)) p)) p ⌝ }

@@ -69,7 +69,7 @@ module _ (store copy : Bytes) where
         ∙ clear-first (copyConditions store copy) (conditions (sideIn store copy) c) (clear (copyConditions store copy) (A .copyTaken))
 
     -- what the last tree has of the sheet, as it was found
-    pub newest-is : (i : ℕ) {f : Found} → f ≡ foundIn store (v .last) i → f ≡ foundIn store (last (storeHistory store)) i
+    newest-is : (i : ℕ) {f : Found} → f ≡ foundIn store (v .last) i → f ≡ foundIn store (last (storeHistory store)) i
     newest-is i e = e ∙ ap (λ (n : ℕ). foundIn store n i) (F .viewed .opened .last)
 
     pub newest-inside : (i : ℕ) {f : Found} → f ≡ foundIn store (v .last) i → f .block < blockCount store

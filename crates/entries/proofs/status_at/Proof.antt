@@ -1,12 +1,12 @@
 -- `entries::status_at` meets its contract: one search for the status and the number.
 -- Assumes nothing.
+use Prim.Native.Nat.{ℕ}
 use mathlib.Core.Path.{_∙_, ap}
 use borrow.Author.Needs.{needs}
-use Prim.Native.Nat.{ℕ}
 use Rattle.model.specs.History.{namer}
 use Rattle.model.specs.Store.{storeHistory}
-use Rattle.entries.proofs.status_at.Statement.{statement}
 use Rattle.search.specs.declared.Found.{Found}
+use Rattle.entries.proofs.status_at.Statement.{statement}
 use Rattle.entries.proofs.status_at.Tie as tie
 
 look-up-requires : tie.Need-look-up-requires
