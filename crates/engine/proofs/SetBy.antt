@@ -1,14 +1,15 @@
 -- W3 of document 02 for the code: "Finding a sheet in tree R now also gives the number of the last commit up to R that named it, or 0 if none did. Status answers it for the last tree, and the
--- companions of read and of show from the store where they don't refuse."
+-- companions of read and of show from the store where they don't refuse. Update and the out-of-date rule use it, outcomes unchanged."
 -- Of the calls nothing is known but their functions' own contracts. `Looked` is that of Demand1, `Trace` that of Demand3.
 -- Assumes nothing.
 use Prim.Native.Nat.{_≤_, ℕ}
 use mathlib.Core.List.{List, [], _++_}
 use mathlib.Core.Path.{_∙_, _≡_, ap, subst, sym}
 use denote.Ref.{RefT, now}
+use lib.Dec.{eqb, ltb}
 use Rattle.model.specs.Calls.{Buffers, Out, freshBuffers, runOn}
-use Rattle.model.specs.History.{Bytes, History, last}
-use Rattle.model.specs.Machine.{Answer, Log, fresh}
+use Rattle.model.specs.History.{Bytes, History, last, namedAfter}
+use Rattle.model.specs.Machine.{Answer, Log, fresh, sameNamer}
 use Rattle.model.specs.Run.{AllValid, Turn, accepted}
 use Rattle.model.specs.SetBy.{LastNamer, Numbered, actionIn}
 use Rattle.model.specs.Store.{storeHistory}
@@ -46,6 +47,9 @@ pub record CodeSetBy : Type 2 where
   pub number : {store : Bytes} {R i n : ℕ} → Gave store R i n → LastNamer (storeHistory store) R i n
   -- and `log` of that revision tells an action other than nothing
   pub logged : {store copy : Bytes} {R i n : ℕ} {a : Answer} → Gave store R i n → 1 ≤ n → Looked store copy (Log n i) a → 1 ≤ actionIn a
+  -- update and the out-of-date rule go by these numbers
+  pub updates : {store : Bytes} {R b i n m : ℕ} → Gave store R i n → Gave store b i m → sameNamer (storeHistory store) i R b ≡ eqb n m
+  pub stale : {store : Bytes} {i n : ℕ} → Gave store (last (storeHistory store)) i n → (b : ℕ) → namedAfter (storeHistory store) b i ≡ ltb b n
   -- after any list of calls from fresh buffers it follows from the accepted commits alone
   pub lists : (N : ℕ) (ts : List Turn) → 2 ≤ N → N ≤ 4_096 → AllValid ts → {rs : List TheAnswer} {b : Buffers} → Trace (freshBuffers N) ts rs b
       → {R i n : ℕ} → Gave (b .store) R i n → LastNamer (accepted (fresh N) ts) R i n
@@ -72,6 +76,8 @@ code-set-by = record {
   number = λ g. gave-numbered g .is;
   logged = λ {store} {copy} {R} {i} {n} {a} g l k.
       subst (λ (o : Out). 1 ≤ actionIn (o .says)) (sym (looked-is k)) (gave-numbered g .logs l);
+  updates = λ {store} {R} {b} {i} {n} {m} g k. set-by .updates (storeHistory store) R b i n m (gave-numbered g .is) (gave-numbered k .is);
+  stale = λ {store} {i} {n} g b. set-by .stale (storeHistory store) b i n (gave-numbered g .is);
   lists = λ N ts lo hi v {rs} {b} T {R} {i} {n} g. subst (λ (h : History). LastNamer h R i n) (history-is N ts lo hi v (traced T .1)) (gave-numbered g .is);
   lasting = λ N ts us lo hi v w {rs} {qs} {b} {b′} T U {R} {i} {n} {m} g k.
       let e = history-is N ts lo hi v (traced T .1) in

@@ -8,7 +8,7 @@ use mathlib.Core.Option.{Option, none, some}
 use mathlib.Core.Path.{_∙_, _≡_, ap, ap₂, refl, subst, sym}
 use native.Mathlib.Omega.{arith}
 use borrow.Author.Tests.{le-ltb, leb-false, leb-true, ltb-false, ne-eqb, not-false}
-use lib.Dec.{eqb, leb}
+use lib.Dec.{eqb, leb, ltb}
 use lib.ListN.{drop, take}
 use lib.Seq.{take-all}
 use Rattle.block.proofs.Says.{eq-or}
@@ -70,6 +70,9 @@ one-number h R i n m L M = omega (arith, at-most n m L M, at-most m n M L)
     at-most : (n m : ℕ) → LastNamer h R i n → LastNamer h R i m → n ≤ m
     at-most zero m L M = omega arith
     at-most (suc n) m L M = M .greatest (suc n) (L .upTo) (L .named (omega arith))
+
+is-namer : (h : History) (R i n : ℕ) → LastNamer h R i n → namer h R i ≡ n
+is-namer h R i n L = one-number h R i (namer h R i) n (last-namer h R i) L
 
 -- ---- the calls on one store
 
@@ -174,6 +177,8 @@ from-store store work (inCopy p m) n x l e = let z : 0 ≡ n = cc in absurd (ome
 pub set-by : SetBy
 set-by = record {
   calls = numbers;
+  updates = λ h R b i n m L M. ap₂ eqb (is-namer h R i n L) (is-namer h b i m M);
+  stale = λ h b i n L. ap (ltb b) (is-namer h (last h) i n L);
   lists = λ N ts lo hi v.
       let b : Buffers = runOn (freshBuffers N) ts in
       let h : History = accepted (fresh N) ts in
@@ -190,8 +195,7 @@ set-by = record {
             let le : R ≤ last h = subst (λ (k : History). R ≤ last k) e (F .upTo) in
             D .lasting us w R i le (F .small) ∙ sym (D .found R i le (F .small)) ∙ q;
         stays = λ us R i n le L.
-            let same : namer h R i ≡ n = one-number h R i (namer h R i) n (last-namer h R i) L in
             let g : History = accepted (run (fresh N) ts) us in
-            subst (λ (k : History). LastNamer k R i n) (sym (accepted-append (fresh N) ts us)) (subst (LastNamer (h ++ g) R i) (namer-grown h g R i le ∙ same) (last-namer (h ++ g) R i));
+            subst (λ (k : History). LastNamer k R i n) (sym (accepted-append (fresh N) ts us)) (subst (LastNamer (h ++ g) R i) (namer-grown h g R i le ∙ is-namer h R i n L) (last-namer (h ++ g) R i));
       };
 }

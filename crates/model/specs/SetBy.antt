@@ -1,16 +1,16 @@
 -- W3 of document 02, the statement: "Finding a sheet in tree R now also gives the number of the last commit up to R that named it, or 0 if none did. Status answers it for the last tree,
--- and the companions of read and of show from the store where they don't refuse."
--- Here over the calls on any buffers, and over lists of calls. "Update and the out-of-date rule use it, outcomes unchanged": they go by `Machine.sameNamer` and `History.namedAfter`, as
--- before. Its proof is in laws/proofs/SetBy.
+-- and the companions of read and of show from the store where they don't refuse. Update and the out-of-date rule use it, outcomes unchanged."
+-- Here over the calls on any buffers, over lists of calls, and over the two rules. Its proof is in laws/proofs/SetBy.
 -- Assumes nothing.
 use Prim.Native.Nat.{_≤_, ℕ}
 use mathlib.Core.Bool.{true}
 use mathlib.Core.List.{List, _++_}
 use mathlib.Core.Logic.{_↔_}
 use mathlib.Core.Path.{_≡_}
+use lib.Dec.{eqb, ltb}
 use Rattle.model.specs.Calls.{Buffers, freshBuffers, inStore, logCall, readCall, readPlace, runOn, showCall, showPlace, statusCall}
-use Rattle.model.specs.History.{Bytes, History, changeOf, commitAt, last, names}
-use Rattle.model.specs.Machine.{Answer, bytes, done, fresh, logged, refused, revision, status}
+use Rattle.model.specs.History.{Bytes, History, changeOf, commitAt, last, namedAfter, names}
+use Rattle.model.specs.Machine.{Answer, bytes, done, fresh, logged, refused, revision, sameNamer, status}
 use Rattle.model.specs.Run.{AllValid, Turn, accepted}
 use Rattle.model.specs.Store.{storeHistory}
 
@@ -66,3 +66,7 @@ pub record ListNumbers (N : ℕ) (ts : List Turn) (b : Buffers) (h : History) : 
 pub record SetBy : Type 0 where
   pub calls : (store copy : Bytes) → CallNumbers store copy
   pub lists : (N : ℕ) (ts : List Turn) → 2 ≤ N → N ≤ 4_096 → AllValid ts → ListNumbers N ts (runOn (freshBuffers N) ts) (accepted (fresh N) ts)
+  -- "Update and the out-of-date rule use it, outcomes unchanged.": whatever gave the numbers, the two rules, which are those of document 01, go by them. An update to R keeps the bytes of an
+  -- entry with base b where both have one number, and a commit after b names the sheet where the last tree's number is above b
+  pub updates : (h : History) (R b i n m : ℕ) → LastNamer h R i n → LastNamer h b i m → sameNamer h i R b ≡ eqb n m
+  pub stale : (h : History) (b i n : ℕ) → LastNamer h (last h) i n → namedAfter h b i ≡ ltb b n

@@ -19,7 +19,7 @@ use Rattle.laws.proofs.Rows.{or-false}
 use Rattle.laws.proofs.Trees.{Small, small-tree}
 use Rattle.model.specs.History.{Bytes, last, namer, sheet}
 use Rattle.model.specs.Invariant.{Kept}
-use Rattle.model.specs.Machine.{Add, Call, Commits, Copy, Delete, Edit, Log, Move, Read, Revert, Show, State, Status, Update, asBytes, bytes, fresh, sideOf}
+use Rattle.model.specs.Machine.{Add, Call, Commits, Copy, Delete, Edit, Log, Move, Read, Revert, Show, State, Status, Update, asBytes, fresh, sideOf}
 use Rattle.model.specs.Refusals.{conditions, firstOf, noSheet, tooLate}
 use Rattle.model.specs.Run.{Turn, Valid, stepBy}
 use Rattle.text.proofs.Laws.{length-decimal, length-hex}
