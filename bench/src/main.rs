@@ -8,6 +8,7 @@ mod script;
 #[cfg(feature = "sqlite")]
 mod sqlite;
 mod store;
+mod sums;
 mod svn;
 
 use std::hint::black_box;
@@ -61,7 +62,7 @@ fn accept() {
                 ("Rust version", Box::new(move || keep(store::open(black_box(&a))))),
                 ("engine (read 0 0, which is acceptance)", Box::new(move || keep(engine::read(black_box(&b), 0, 0)))),
                 ("engine, sums alone (last check wrong)", Box::new(move || keep(engine::read(black_box(&broken), 0, 0)))),
-                ("Rust version, sums alone", Box::new(move || keep(c.chunks_exact(512).all(store::checked)))),
+                ("Rust version, sums alone", Box::new(move || keep(sums::all_right(black_box(&c), sums::fours)))),
                 ("zlib's adler32 over the same bytes", Box::new(move || keep(engine::adler(black_box(&d))))),
             ],
         );
@@ -71,6 +72,37 @@ fn accept() {
         let t = best(400, &mut [("", Box::new(move || keep(engine::read(black_box(&bytes), 0, 0))))]);
         println!("acceptance a block, of {blocks} blocks: {:.0} ns", t[0] / blocks as f64);
     }
+}
+
+/// A store of 4,096 blocks, and the sums of all of them: the engine's (the last check is wrong, so that it does nothing else), each form in Rust, zlib's.
+fn summers() -> Vec<(&'static str, Box<dyn FnMut()>)> {
+    let bytes: &'static [u8] = make::ordinary(4096).leak();
+    let mut broken = bytes.to_vec();
+    *broken.last_mut().expect("a store has bytes") ^= 1;
+    assert_eq!(engine::read(&broken, 0, 0).refusal, 2);
+    fn of(bytes: &'static [u8], form: impl Fn(&[u8]) -> (u32, u32) + Copy + 'static) -> Box<dyn FnMut()> {
+        let high = [255; 512];
+        assert!(sums::all_right(bytes, form) && form(&high) == sums::by_byte(&high));
+        Box::new(move || keep(sums::all_right(black_box(bytes), form)))
+    }
+    vec![
+        ("Rust, byte by byte (the loop before W4)", of(bytes, sums::by_byte)),
+        ("engine, four bytes as a word", Box::new(move || keep(engine::read(black_box(&broken), 0, 0)))),
+        ("Rust, four bytes as a word", of(bytes, sums::fours)),
+        ("Rust, side by side, the first of 16 bits", of(bytes, sums::side_by_side)),
+        ("Rust, side by side, all of 32 bits", of(bytes, sums::side_by_side_wide)),
+        ("Rust, side by side, runs of 21 steps", of(bytes, sums::runs)),
+        ("Rust, one pair of sums, a step at once", of(bytes, sums::at_once)),
+        ("Rust, the same, reduced at every step", of(bytes, sums::reduced)),
+        ("zlib's adler32 over the same bytes", Box::new(move || keep(engine::adler(black_box(bytes))))),
+    ]
+}
+
+/// What `bench/count` has valgrind count.
+#[inline(never)]
+#[no_mangle]
+fn counted(f: &mut dyn FnMut()) {
+    f()
 }
 
 fn find() {
@@ -169,7 +201,15 @@ fn calls() {
 fn main() {
     // the parts to run, all where none is named
     let parts: Vec<String> = std::env::args().skip(1).collect();
+    if let ["count", n] = parts.iter().map(String::as_str).collect::<Vec<_>>()[..] {
+        let (name, f) = &mut summers()[n.parse::<usize>().expect("a number")];
+        counted(f);
+        return println!("{name}");
+    }
     let wanted = |name: &str| parts.is_empty() || parts.iter().any(|p| p == name);
+    if wanted("sums") {
+        report("the sums of 4,096 blocks", 400, summers());
+    }
     if wanted("accept") {
         accept();
     }

@@ -1,29 +1,16 @@
 //! An independent version of the checks of document 01, section "Blocks", in plain Rust: what the engine's acceptance is held to for speed and for its answers.
 //! It shares nothing with the engine.
 
+use crate::sums;
+
 pub const BLOCK: usize = 512;
 
 pub fn two(b: &[u8], k: usize) -> usize {
     b[k] as usize + 256 * b[k + 1] as usize
 }
 
-/// The two sums over bytes 0 to 507, reduced once at the end.
-pub fn sums(b: &[u8]) -> (u32, u32) {
-    let (mut a, mut s) = (0u32, 0u32);
-    for &x in &b[..508] {
-        a += x as u32;
-        s += a;
-    }
-    (a % 65521, s % 65521)
-}
-
-pub fn checked(b: &[u8]) -> bool {
-    let (a, s) = sums(b);
-    two(b, 508) == a as usize && two(b, 510) == s as usize
-}
-
 pub fn seal(b: &mut [u8]) {
-    let (a, s) = sums(b);
+    let (a, s) = sums::fours(b);
     b[508..510].copy_from_slice(&(a as u16).to_le_bytes());
     b[510..512].copy_from_slice(&(s as u16).to_le_bytes());
 }
@@ -78,7 +65,7 @@ pub fn open(store: &[u8]) -> Result<Opened, u32> {
     if store.len() % BLOCK != 0 || !(2..=4096).contains(&n) {
         return Err(1);
     }
-    if !store.chunks_exact(BLOCK).all(checked) {
+    if !sums::all_right(store, sums::fours) {
         return Err(2);
     }
     laid_out(store, n).ok_or(3)

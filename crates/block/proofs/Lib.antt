@@ -1,6 +1,7 @@
 pub mod Says
 pub mod Fields
 pub mod Turns
+pub mod Fours
 pub mod Sealing
 pub mod Parts
 pub mod Writing

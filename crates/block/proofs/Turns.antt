@@ -3,7 +3,7 @@
 use Prim.Native.Nat.{ℕ, suc, _+_, _%_, _≤_, _<_, min}
 use mathlib.Core.Path.{_≡_, sym, ap, ap₂, _∙_}
 use mathlib.Core.Bool.{Bool, _&&_, and-assoc, and-true}
-use mathlib.Core.List.{List}
+use mathlib.Core.List.{List, _∷_}
 use native.Mathlib.Nat.{mod-add-mod, add-mod-mod}
 use native.Mathlib.Numerals.{add-one}
 use native.Mathlib.Omega.{arith}
@@ -21,18 +21,22 @@ or-zero a b =
     (λ e. (omega (arith, or-add-and a b, and-le-r a b, e), omega (arith, or-add-and a b, and-le-l a b, e)))
     (λ p. omega (arith, or-add-and a b, p .0, p .1))
 
+-- one byte more in the two sums, which are not reduced
+pub sums-byte : (a b x : ℕ) (l : List ℕ) → sums (a % 65_521) (b % 65_521) (x ∷ l) ≡ sums ((a + x) % 65_521) ((b + (a + x)) % 65_521) l
+sums-byte a b x l =
+    let p : (a % 65_521 + x) % 65_521 ≡ (a + x) % 65_521 = mod-add-mod a 65_521 x in
+    let q : (b % 65_521 + (a % 65_521 + x) % 65_521) % 65_521 ≡ (b + (a + x)) % 65_521 =
+    rw p (mod-add-mod b 65_521 ((a + x) % 65_521) ∙ add-mod-mod b (a + x) 65_521) in
+    ap₂ (λ (u v : ℕ). sums u v l) p q
+
 module _ (l : List ℕ) (i : ℕ) where
-  -- the two sums, not reduced
   pub sums-step : (n a b x : ℕ) → i < min n (length l) → x ≡ getD l i 0
       → sums (a % 65_521) (b % 65_521) (drop i (take n l)) ≡ sums ((a + x) % 65_521) ((b + (a + x)) % 65_521) (drop (i + 1) (take n l))
   sums-step n a b x h e =
-      let g = getD (take n l) i 0 in
-      let f : g ≡ x = getD-take n l i 0 (omega arith) ∙ sym e in
-      let p : (a % 65_521 + g) % 65_521 ≡ (a + x) % 65_521 = rw f (mod-add-mod a 65_521 x) in
-      let q : (b % 65_521 + (a % 65_521 + g) % 65_521) % 65_521 ≡ (b + (a + x)) % 65_521 =
-      rw p (mod-add-mod b 65_521 ((a + x) % 65_521) ∙ add-mod-mod b (a + x) 65_521) in
-      ap (sums (a % 65_521) (b % 65_521)) (drop-cons (take n l) i 0 (omega (arith, length-take n l)))
-      ∙ ap₂ (λ (u v : ℕ). sums u v (drop (suc i) (take n l))) p q
+      let f : getD (take n l) i 0 ≡ x = getD-take n l i 0 (omega arith) ∙ sym e in
+      let r = drop (suc i) (take n l) in
+      ap (sums (a % 65_521) (b % 65_521)) (drop-cons (take n l) i 0 (omega (arith, length-take n l)) ∙ ap (λ (y : ℕ). y ∷ r) f)
+      ∙ sums-byte a b x r
       ∙ rw (add-one i)
 
   pub sums-done : (n a b : ℕ) → min n (length l) ≤ i → sums a b (drop i (take n l)) ≡ (a, b)

@@ -2,5 +2,6 @@
 pub mod Lists
 pub mod Field
 pub mod Check
+pub mod Fours
 pub mod Buffer
 pub mod Write

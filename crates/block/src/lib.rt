@@ -1,10 +1,11 @@
 // Blocks of 512 bytes: fields, the two sums, check and seal. Every function is total: a byte past the end reads as 0 and is not written, and a block that is
 // not whole is not sealed.
 ghost use mathlib.Core.Path.{_≡_};
-ghost use Prim.Native.Nat.{_-_, _<_};
-ghost use lib.ListN.{getD, replicate, set, take};
+ghost use Prim.Native.Nat.{_+_, _-_, _*_, _≤_, _<_};
+ghost use lib.ListN.{length, getD, replicate, set, take};
 ghost use Rattle.block.specs.Field.{twoAt, fourAt, withTwo, withFour};
 ghost use Rattle.block.specs.Check.{sums, sealed, sealOf, isZero};
+ghost use Rattle.block.specs.Fours.{evenAt, oddAt, allAt, fours};
 ghost use Rattle.block.specs.Buffer.{blockAt, sealAt};
 ghost use Rattle.block.specs.Write.{written};
 
@@ -123,7 +124,68 @@ pub struct Sums {
     pub b: u32,
 }
 
-// The two sums over bytes 0 to 507, or over all where there are fewer. They are reduced once, at the end: 508 bytes cannot overflow 32 bits.
+// The four bytes from k on, as one number. With no test between them, and a term for each, the compiler reads the four at once.
+fn word(s: &[u8], k: usize) -> u32
+    requires { ⌜ k + 4 ≤ length (now s) ⌝ }
+    ensures { λ r. ⌜ r ≡ fourAt (now (s .entry)) k ⌝ }
+{
+    wide32(s[k]) + 256 * wide32(s[k + 1]) + 65536 * wide32(s[k + 2]) + 16777216 * wide32(s[k + 3])
+}
+
+// What the four bytes from k on add: the first, and the third 65,536 times; the second, and the fourth 65,536 times; all four.
+struct Four {
+    even: u32,
+    odd: u32,
+    all: u32,
+}
+
+fn read_four(s: &[u8], k: usize) -> Four
+    requires { ⌜ k + 4 ≤ length (now s) ⌝ }
+    ensures { λ r. ⌜ (r .even ≡ evenAt (now (s .entry)) k) × (r .odd ≡ oddAt (now (s .entry)) k) × (r .all ≡ allAt (now (s .entry)) k) × (r .all ≤ 1020) ⌝ }
+{
+    let x = word(s, k);
+    let even = x % 256 + 65536 * (x / 65536 % 256);
+    let odd = x / 256 % 256 + 65536 * (x / 16777216);
+    let both = even + odd;
+    Four {
+        even,
+        odd,
+        all: both % 65536 + both / 65536,
+    }
+}
+
+// The two sums over the first n steps of four bytes, not reduced: 508 bytes cannot overflow 32 bits. `even` and `odd` have the sums of two places in a step each; `w` is the sum
+// of all bytes, each counted once for each step after its own. They are joined once, after the last step. No step needs what the step before it found, so the compiler takes
+// many at a time.
+fn in_fours(s: &[u8], n: usize) -> Sums
+    requires { ⌜ (n ≤ 127) × (4 * n ≤ length (now s)) ⌝ }
+    ensures { λ r. ⌜ (fours 0 0 0 0 0 n (take 508 (now (s .entry))) ≡ (r .a, r .b)) × (r .a ≤ 1020 * n) × (r .b ≤ 516630 * n) ⌝ }
+{
+    let end = 4 * n;
+    let mut even: u32 = 0;
+    let mut odd: u32 = 0;
+    let mut w: u32 = 0;
+    let mut left = n as u32;
+    let mut i: usize = 0;
+    while i + 4 <= end {
+        left -= 1;
+        let x = read_four(s, i);
+        even += x.even;
+        odd += x.odd;
+        w += left * x.all;
+        i += 4;
+    }
+    let a0 = even % 65536;
+    let a1 = odd % 65536;
+    let a2 = even / 65536;
+    let a3 = odd / 65536;
+    Sums {
+        a: a0 + a1 + a2 + a3,
+        b: 4 * w + 4 * a0 + 3 * a1 + 2 * a2 + a3,
+    }
+}
+
+// The two sums over bytes 0 to 507, or over all where there are fewer: four bytes at a step, and then the bytes that fill no step. They are reduced once, at the end.
 pub fn sums_of(s: &[u8]) -> Sums
     ensures { λ r. ⌜ sums 0 0 (take 508 (now (s .entry))) ≡ (r .a, r .b) ⌝ }
 {
@@ -131,9 +193,11 @@ pub fn sums_of(s: &[u8]) -> Sums
     if 508 < end {
         end = 508;
     }
-    let mut a: u32 = 0;
-    let mut b: u32 = 0;
-    let mut i: usize = 0;
+    let n = end / 4;
+    let t = in_fours(s, n);
+    let mut a = t.a;
+    let mut b = t.b;
+    let mut i = 4 * n;
     while i < end {
         a += wide32(s[i]);
         b += a;
