@@ -2,8 +2,7 @@
  *
  * Every call works on buffers that the caller lends: a store of 2 to 4,096 blocks of 512 bytes, and a working copy of 16,896
  * bytes. A call checks all that it is handed, finishes on every input, and either does its work or answers a refusal and
- * leaves every buffer unchanged. Refusals are numbered 1 to 13 as in the order's paper; 0 is none. A call needs about 272 KiB
- * of stack.
+ * leaves every buffer unchanged. A call needs about 272 KiB of stack.
  */
 #ifndef SHEETSTORE_H
 #define SHEETSTORE_H
@@ -18,6 +17,25 @@ extern "C" {
 #define SHEETS_BLOCK 512
 #define SHEETS_COPY_LEN 16896
 #define SHEETS_RECORD_LEN 512
+
+/* Why a call was refused, numbered as in the order's papers; 0 is none. A call answers the first that holds, 14 checked right
+ * after 3. */
+enum {
+    SHEETS_REFUSED_STORE_LENGTH = 1,
+    SHEETS_REFUSED_STORE_CHECK = 2,
+    SHEETS_REFUSED_STORE_LAYOUT = 3,
+    SHEETS_REFUSED_COPY_LENGTH = 4,
+    SHEETS_REFUSED_COPY_LAYOUT = 5,
+    SHEETS_REFUSED_UNFIT = 6,
+    SHEETS_REFUSED_RANGE = 7,
+    SHEETS_REFUSED_MISSING = 8,
+    SHEETS_REFUSED_OCCUPIED = 9,
+    SHEETS_REFUSED_NOTHING_PENDING = 10,
+    SHEETS_REFUSED_OUT_OF_DATE = 11,
+    SHEETS_REFUSED_CONFLICT = 12,
+    SHEETS_REFUSED_NO_ROOM = 13,
+    SHEETS_REFUSED_TAIL = 14 /* commit on a store that has a tail */
+};
 
 /* refusal 0: done; value: a commit's revision, else 0 */
 typedef struct {
@@ -58,9 +76,13 @@ sheets_answer sheets_delete(const uint8_t *store, size_t store_len, uint8_t *cop
 sheets_answer sheets_copy(const uint8_t *store, size_t store_len, uint8_t *copy, size_t copy_len, uint32_t from, uint32_t to);
 sheets_answer sheets_move(const uint8_t *store, size_t store_len, uint8_t *copy, size_t copy_len, uint32_t from, uint32_t to);
 
-/* A commit leaves the blocks in use as they are. Two stores of one size that began fresh are equal byte by byte exactly if their
- * histories are the same. */
+/* A commit leaves the blocks in use as they are. Two stores of one size that began fresh and have no tail are equal byte by byte
+ * exactly if their histories are the same. */
 sheets_answer sheets_commit(uint8_t *store, size_t store_len, uint8_t *copy, size_t copy_len, uint32_t stamp, uint32_t mask);
+/* Where contact is lost within a commit, the store ends in a tail: up to 32 content blocks of the next revision and at most one
+ * block with a wrong check. Every call but commit works then, as if the tail were zero blocks; commit is refused with 14. Clear
+ * writes zero blocks there, from the highest block down; without a tail it changes nothing. Only 1, 2 and 3 refuse it. */
+sheets_answer sheets_clear(uint8_t *store, size_t store_len);
 /* An entry whose own bytes are the ones that its sheet has at the revision agrees with it: not a conflict (12), and unmodified
  * from then on. */
 sheets_answer sheets_update(const uint8_t *store, size_t store_len, uint8_t *copy, size_t copy_len, uint32_t mask, uint32_t revision);
@@ -76,7 +98,8 @@ sheets_log_entry sheets_log(const uint8_t *store, size_t store_len, uint32_t rev
 /* A list of calls. The script has a record of 512 bytes for each call, copies are the working copies of seats 1 to 4 side by
  * side, 67,584 bytes, and answers has room for a record of 512 bytes for each call. The five buffers are checked once. Refused
  * (1 to 6 as for any call, the copies in order; 7 for a copy of another seat, a bad record or fewer answers than calls), nothing
- * is changed. The records are laid out in docs/LAYOUT.md. */
+ * is changed. A script may begin on a store with a tail: its commits are refused with 14 until one of its calls is a clear, kind
+ * 13. The records are laid out in docs/LAYOUT.md. */
 sheets_answer sheets_replay(const uint8_t *script, size_t script_len, uint8_t *store, size_t store_len, uint8_t *copies,
                             size_t copies_len, uint8_t *answers, size_t answers_len);
 

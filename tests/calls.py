@@ -3,10 +3,11 @@
 
 calls.py [--seed N] [--lists N] [--only K]
 
-For each list a fresh store of 2 to 4,096 blocks and four fresh copies; answers, every byte of every buffer, and reads are compared. Then damage: bytes of the
-buffers changed, resealed or not, blocks exchanged, lengths wrong; the first refusal that holds by tests/model/accept.py must come and nothing may change, and
-where the buffers are accepted all the same, the call must do as the model does. How often the calls met what W2 and W3 of document 02 are about is printed, and
-that some of it never came is a failure. At the first list that fails its seed and number are printed: `--seed N --only K` runs that list alone.
+For each list a fresh store of 2 to 4,096 blocks and four fresh copies; answers, every byte of every buffer, and reads are compared. In half of the lists the store
+is found with a tail now and then, as a commit that stopped half way leaves it. Then damage, with and without a tail: bytes of the buffers changed, resealed or not,
+blocks exchanged, lengths wrong; the first refusal that holds by tests/model/accept.py must come and nothing may change, and where the buffers are accepted all the
+same, the call must do as the model does. How often the calls met what W2, W3 and W5 of document 02 are about is printed, and that some of it never came is a failure.
+At the first list that fails its seed and number are printed: `--seed N --only K` runs that list alone.
 """
 import pathlib, random, sys
 
@@ -16,7 +17,7 @@ import accept, layout, lists, sheets
 from engine import Engine
 
 CHANGING = ('add', 'edit', 'delete', 'copy', 'move', 'commit', 'update', 'revert')
-STORE_ONLY = ('read', 'log')
+STORE_ONLY = ('read', 'log', 'clear')
 ALL = 0xffffffff
 calls = failed = 0
 
@@ -35,11 +36,52 @@ def played(model, store, some):
         answers.append(lists.made(model, c))
         if answers[-1][0] == 'revision':
             store = layout.appended(store, model.history[-1])
+        elif c[0] == 'clear':
+            store = layout.cleared(store)
     return answers, store
 
 
+# ---- tails
+
+def junk(rng, revision):
+    """Blocks with a wrong check by what they are: nearly right ones, and any."""
+    commit = layout.commit_block(revision, rng.randint(1, 4), rng.getrandbits(32), [layout.line(i, 1, 1 + i) for i in range(rng.randint(1, 32))])
+    half = rng.randrange(1, 508)
+    blocks = {
+        'a commit block, half written': commit[:half] + bytes(512 - half),
+        'zeros with a check': bytes(508) + rng.choice([b'\1\0\0\0', b'\0\0\0\1', rng.randbytes(3) + b'\1']),
+        'zeros with a check that is not reduced': bytes(508) + layout.two(65521) * 2,
+        'a check that is not reduced': layout.sealed([3])[:508] + layout.two(3 + 65521) + layout.two(3 * 508),
+        'ones': b'\xff' * 512,
+        'any': rng.randbytes(512),
+    }
+    for what, whole in ('commit', commit), ('content', layout.content(revision, rng.randbytes(rng.choice([0, 1, 480])))), ('label', layout.label()):
+        at = rng.choice([0, 1, 4, 508, 511, rng.randrange(512)])
+        blocks[f'a {what} block with a bit flipped'] = whole[:at] + bytes([whole[at] ^ 1 << rng.randrange(8)]) + whole[at + 1:]
+    for kind in (*range(10), 255):
+        blocks[f'any of kind {kind}'] = bytes([kind]) + rng.randbytes(511)
+    assert all(b != layout.sealed(b[:508]) for b in blocks.values())
+    return blocks
+
+
+def random_tail(rng, model):
+    """The blocks of a tail for a store with the model's history; none if it has no room."""
+    room, revision = model.blocks - model.used, model.last() + 1
+    count = min(room, rng.choice([0, 1, 2, rng.randint(0, 32), 32, 32]))
+    tail = [layout.content(revision, rng.choice([b'', b'A', rng.randbytes(480)])) for _ in range(count)]
+    if count < room and (count == 0 or rng.random() < 0.5):
+        tail.append(rng.choice(list(junk(rng, revision).values())))
+    if tail:
+        both = len(tail) > count > 0
+        lists.seen['content and junk' if both else 'content alone' if count else 'junk alone'] += 1
+        lists.seen['32 contents and junk' if both else '32 contents'] += count == 32
+        lists.seen['behind the label'] += model.used == 1
+        lists.seen['up to the last block'] += len(tail) == room
+    return tail
+
+
 class Desk:
-    """A store and four copies beside the model: a store that has the model's history, in any order, and the model's copies."""
+    """A store and four copies beside the model: a store that has the model's history, in any order, and its tail, and the model's copies."""
 
     def __init__(self, engine, model, store):
         self.engine, self.model, self.store, self.laid_out = engine, model, bytearray(store), bytes(store)
@@ -57,6 +99,12 @@ class Desk:
                 fail(f'create of the copy of seat {k}')
         return desk
 
+    def leave(self, tail):
+        """The store is found with these blocks behind its history."""
+        self.laid_out = layout.tailed(self.laid_out, tail)
+        self.store[:] = self.laid_out
+        self.model.tail = len(tail)
+
     def call(self, name, seat, *args):
         global calls
         calls += 1
@@ -68,7 +116,7 @@ class Desk:
             fail(f'{what}: {got}, not {wanted}')
         if self.store != self.laid_out:
             fail(f'{what} leaves another store')
-        elif wanted[0] == 'revision' and layout.history_of(self.laid_out) != (self.model.history, self.model.used):
+        elif wanted[0] == 'revision' and layout.history_of(self.laid_out) != (self.model.history, self.model.used, 0):
             fail(f'{what} leaves another history')
         for k, copy in self.copies.items():
             changes = k == seat and name in CHANGING and wanted[0] != 'no'
@@ -77,8 +125,9 @@ class Desk:
         return wanted
 
     def whole(self):
-        """The store of a desk that was fresh follows from its history alone."""
-        if self.store != layout.store_bytes(self.model.blocks, self.model.history):
+        """The store of a desk that was fresh follows from its history alone, but for a tail."""
+        size = self.model.used * 512
+        if self.store[:size] != layout.store_bytes(self.model.blocks, self.model.history)[:size]:
             fail('the calls leave another layout of the history')
 
     def look(self, rng):
@@ -95,11 +144,13 @@ class Desk:
 def random_list(engine, rng, number):
     """A list of random calls. List 0 fills a store of 4,096 blocks to its last block first, and so do a few others with smaller ones."""
     desk = Desk.fresh(engine, rng.choice([2, 3, 4, 8, 12, 32, 64, 65, 200, 1000, 4096]) if number else 4096)
-    count = rng.choice([60, 150, 300])
+    count, tails = rng.choice([60, 150, 300]), rng.choice([0, 0.04])
     if number == 0 or desk.model.blocks < 1000 and rng.random() < 0.15:
         fill(desk, rng)
         count = 60
     for n in range(count):
+        if rng.random() < tails:
+            desk.leave(random_tail(rng, desk.model))
         desk.call(*lists.random_call(rng, desk.model))
         if n % 20 == 0:
             desk.look(rng)
@@ -134,8 +185,9 @@ def damage(rng, store, copy, last):
         copy[at:at + 512] = layout.entry_block(entry(rng, last))
         return
     buffer = rng.choice([store, copy])
-    kind = rng.choice(['byte'] * 8 + ['head'] * 6 + ['exchange'] * 2 + ['number'] * 2 + ['blank', 'length'])
-    number = rng.randrange(min(len(buffer) // 512, rng.choice([4, 33, 4096])))
+    kind = rng.choice(['byte'] * 8 + ['head'] * 6 + ['exchange'] * 2 + ['number'] * 2 + ['blank'] + ['length'] * 2)
+    blocks, filled = len(buffer) // 512, len(layout.filled_blocks(buffer))
+    number = rng.randrange(min(blocks, rng.choice([4, 33, 4096]))) if rng.random() < 0.7 else min(blocks - 1, max(0, filled - rng.randint(0, 3)))
     at = number * 512
     if kind == 'byte':
         buffer[at + rng.randrange(512)] ^= 1 << rng.randrange(8)
@@ -166,9 +218,11 @@ def damaged(engine, rng, desk):
     for _ in range(40 if desk.model.blocks <= 200 else 8):
         seat = rng.randint(1, 4)
         store, copy = bytearray(desk.store), bytearray(desk.copies[seat])
+        if rng.random() < 0.4:
+            store[:] = layout.tailed(store, random_tail(rng, desk.model))
         for _ in range(rng.choice([1, 1, 2])):
             damage(rng, store, copy, desk.model.last())
-        name, _, *args = lists.random_call(rng, desk.model)
+        name, _, *args = lists.random_call(rng, desk.model) if rng.random() < 0.7 else ('commit', seat, rng.getrandbits(32), ALL)
         on_buffers(engine, f'{name} {args} on damaged buffers', name, args, store, copy)
 
 
@@ -177,7 +231,9 @@ def on_buffers(engine, what, name, args, store, copy):
     global calls
     calls += 1
     before = bytes(store), bytes(copy)
-    number = accept.refusal(store, None if name in STORE_ONLY else copy)
+    number = accept.refusal(store, None if name in STORE_ONLY else copy, name == 'commit')
+    if number == 14:
+        lists.seen[f'14 before {accept.refusal(store, copy)}'] += 1
     got = engine.call(name, store, copy, *args)
     if number:
         if got != ('no', number):
@@ -192,7 +248,7 @@ def on_buffers(engine, what, name, args, store, copy):
 def accepted(what, name, args, got, before, store, copy):
     """A call on buffers of any origin that are accepted."""
     model = sheets.Machine(len(store) // 512)
-    model.history, model.used = layout.history_of(before[0])
+    model.history, model.used, model.tail = layout.history_of(before[0])
     seat = 1
     if name not in STORE_ONLY:
         seat = before[1][1]
@@ -215,7 +271,7 @@ def main():
         if failed:
             print(f'failed in this list: tests/calls.py --seed {given.seed} --only {n}')
             break
-    never = lists.tally(given.enough and not failed)
+    never = lists.tally(given.enough and not failed, lists.COUNTED)
     print(f'{calls} calls, {failed} wrong')
     sys.exit(failed + never != 0)
 

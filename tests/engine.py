@@ -108,12 +108,15 @@ class Engine:
         assert r.action == 4 or source == (0, 0)
         return ('log', r.seat, r.stamp, r.changes, (r.action, source if r.action == 4 else None) if r.action else None)
 
+    def clear(self, store):
+        return self._answer('clear', store)
+
     def replay(self, script, store, copies, answers):
         return self._answer('replay', script, store, copies, answers)
 
     def call(self, name, store, copy, *args):
         """A call as the model names it, on the two buffers."""
-        if name in ('read', 'log'):
+        if name in ('read', 'log', 'clear'):
             return getattr(self, name)(store, *args)
         if name in ('show', 'status'):
             return getattr(self, name)(store, copy, *args)

@@ -2,7 +2,7 @@
 """Computes the machine of crates/model by the prover on whole lists of calls, and holds it to lists made elsewhere.
 
 lists.py FILE        every list of a file of lists, one JSON object a line: see tests/vectors/README.md
-lists.py --random N [SEED]   a list of N random calls by four seats, with the answers and the end of tests/model
+lists.py --random N [SEED]   a list of N random calls by four seats, with the answers and the end of tests/model; it begins on a fresh store with a tail
 
 For each list two theorems by `refl` are written to target/lists: the machine's answers are those of the list, and its
 state at the end is the list's. Then the prover checks them.
@@ -14,14 +14,14 @@ sys.path.insert(0, str(ROOT / 'tests' / 'model'))
 import sheets
 
 NAMES = dict(add='Add', edit='Edit', delete='Delete', copy='Copy', move='Move', commit='Commits', update='Update',
-             revert='Revert', read='Read', show='Show', status='Status', log='Log')
+             revert='Revert', read='Read', show='Show', status='Status', log='Log', clear='Clears')
 HEAD = '''use mathlib.Core.Path.{_≡_, refl}
 use mathlib.Core.List.{List, [], _∷_}
 use lib.ListN.{replicate}
 use Rattle.model.specs.History.{tree, Change, nothing, add, change, delete, copy, Commit}
 use Rattle.model.specs.Entry.{Entry, empty, normal, added, deleted, copied}
 use Rattle.model.specs.Machine.{State, fresh}
-use Rattle.model.specs.Machine.{Add, Edit, Delete, Copy, Move, Commits, Update, Revert, Read, Show, Status, Log}
+use Rattle.model.specs.Machine.{Add, Edit, Delete, Copy, Move, Commits, Update, Revert, Read, Show, Status, Log, Clears}
 use Rattle.model.specs.Machine.{Answer, refused, done, revision, bytes, status, logged}
 use Rattle.model.specs.Run.{Turn, run, answers}
 use Rattle.model.proofs.Play.{_does_}
@@ -40,7 +40,7 @@ def data(b):
 
 
 def call(name, seat, *args):
-    return f'{seat} does {NAMES[name]} ' + ' '.join(data(x) if isinstance(x, bytes) else str(x) for x in args)
+    return f'{seat} does ' + ' '.join([NAMES[name], *(data(x) if isinstance(x, bytes) else str(x) for x in args)])
 
 
 def answer(a):
@@ -69,21 +69,24 @@ def entry(e):
     }[e[0]]()
 
 
-def theorems(n, calls, answers, used, history, seats):
+def theorems(n, calls, answers, used, tail, history, seats, found=0):
+    """The theorems of a list. Its fresh store is found with so many blocks of a tail."""
+    start = f'record {{ blocks = {n}; used = 1; tail = {found}; history = []; seats = replicate 4 (replicate 32 empty) }}' if found else f'fresh {n}'
     commits = cons(f'record {{ seat = {seat}; stamp = {stamp}; changes = {cons(change(cs.get(i)) for i in range(32))} }}' for seat, stamp, cs in history)
     rows = cons(f'({cons(map(entry, seats[k]))})' for k in (1, 2, 3, 4))
     return (HEAD + f'abbrev calls : List Turn\ncalls = {cons(call(*c) for c in calls)}\n\n'
-            f'said : answers (fresh {n}) calls ≡ {cons(map(answer, answers))}\nunfolding tree\nsaid = refl\n\n'
-            f'left : run (fresh {n}) calls ≡ record {{ blocks = {n}; used = {used}; history = {commits}; seats = {rows} }}\nunfolding tree\nleft = refl\n')
+            f'abbrev start : State\nstart = {start}\n\n'
+            f'said : answers start calls ≡ {cons(map(answer, answers))}\nunfolding tree\nsaid = refl\n\n'
+            f'left : run start calls ≡ record {{ blocks = {n}; used = {used}; tail = {tail}; history = {commits}; seats = {rows} }}\nunfolding tree\nleft = refl\n')
 
 
 def from_json(l):
-    """A list of a file in the model's terms: blocks, calls, answers, and at the end used blocks, history and entries."""
+    """A list of a file in the model's terms: blocks, calls, answers, and at the end used blocks, those of the tail, history and entries."""
     tuples = lambda x: tuple(map(tuples, x)) if isinstance(x, list) else x
     hexed = lambda x: None if x is None else bytes.fromhex(x)
 
     def args(c):
-        seat, rest = (1, c[1:]) if c[0] in ('read', 'log') else (c[1], c[2:])
+        seat, rest = (1, c[1:]) if c[0] in ('read', 'log', 'clear') else (c[1], c[2:])
         return (c[0], seat, *(hexed(x) if isinstance(x, str) else x for x in rest))
 
     def said(a):
@@ -102,12 +105,13 @@ def from_json(l):
     for k, entries in end['entries'].items():
         for i, e in entries.items():
             seats[int(k)][int(i)] = entry_of(e)
-    return l['n'], [args(c) for c in l['calls']], [said(a) for a in l['answers']], end['used'], history, seats
+    return l['n'], [args(c) for c in l['calls']], [said(a) for a in l['answers']], end['used'], end['tail'], history, seats
 
 
 # ---- random calls
 
 W2, W3 = 'W2, entries of updates', 'W3, numbers'
+CLEARS, BESIDE, TAILS, FIRST = 'W5, clears and 14', 'W5, beside a tail', 'W5, tails', 'W5, commits of damaged copies'
 COUNTED = {
     W2: ('modified that agree', 'added that agree', 'copied that agree', 'empty that agree', 'that agree with an older tree alone', 'that agree beside a conflict',
          'conflicts equal to the last tree alone', 'conflicts of equal length', 'conflicts deleted by both'),
@@ -115,8 +119,13 @@ COUNTED = {
          '0 for an absent sheet', 'above 0 for an absent sheet', '0 for an added or copied entry', 'above 0 for an added entry', 'above 0 for a copied entry',
          'above the base of a normal entry', 'above the base of a deleted entry', 'below the base of an entry', 'of an add', 'of a change', 'of a delete',
          'of a copy', 'of a sheet that came back', 'below a copy from the sheet'),
+    CLEARS: ('clears of a tail', 'clears without a tail', 'commits refused with 14'),
+    BESIDE: (*(f'{name} done' for name in NAMES if name not in ('commit', 'clear')), 'commit that goes through without it', 'commit that is refused without it'),
+    TAILS: ('content alone', 'junk alone', 'content and junk', '32 contents', '32 contents and junk', 'behind the label', 'up to the last block'),
+    FIRST: ('14 before 4', '14 before 5', '14 before 6'),
 }
 seen = collections.Counter()
+IN_LIST, FOUND = (W2, W3, CLEARS), 3  # what the prover's random list meets, and the blocks of the tail that it begins with
 
 
 def met(m, seat, mask, revision):
@@ -177,12 +186,35 @@ def told(m, name, seat, args, answer):
             yield 'of a sheet that came back'
 
 
+def twin(m):
+    """The same machine, apart."""
+    other = sheets.Machine(m.blocks)
+    other.history, other.used, other.tail = list(m.history), m.used, m.tail
+    other.seats = {k: list(entries) for k, entries in m.seats.items()}
+    return other
+
+
+def without_tail(m, call):
+    """The answer that a call would have on the store without its tail."""
+    bare = twin(m)
+    bare.tail = 0
+    return bare.call(*call)
+
+
 def made(m, call):
-    """The model makes the call. What of W2 and W3 it meets is counted."""
+    """The model makes the call. What of W2, W3 and W5 it meets is counted."""
     name, seat, *args = call
     if name == 'update' and args[1] <= m.last():
         seen.update(met(m, *call[1:]))
+    tail = m.tail
     answer = m.call(*call)
+    if name == 'clear':
+        seen['clears of a tail' if tail else 'clears without a tail'] += 1
+    elif answer == ('no', 14):
+        seen['commits refused with 14'] += 1
+        seen['commit that is refused without it' if without_tail(m, call)[0] == 'no' else 'commit that goes through without it'] += 1
+    elif tail and answer[0] != 'no':
+        seen[f'{name} done'] += 1
     if answer[0] in ('bytes', 'status'):
         seen.update(told(m, name, seat, args, answer))
     return answer
@@ -193,7 +225,7 @@ def unmet(requests):
     return [what for request in requests for what in COUNTED[request] if not seen[what]]
 
 
-def tally(enough, requests=COUNTED):
+def tally(enough, requests):
     """Prints how often the calls met what these requests are about. How much of it never came, where the calls were enough."""
     never = unmet(requests) if enough else []
     for request in requests:
@@ -216,6 +248,8 @@ def options(doc, count):
 
 
 def random_call(rng, m):
+    if m.tail and rng.random() < 0.08:
+        return ('clear', rng.randint(1, 4))
     if m.history and rng.random() < 0.3:
         return same_edit(rng, m)
     name = rng.choice(list(NAMES) + ['add', 'edit', 'commit', 'commit', 'update'])
@@ -228,7 +262,7 @@ def random_call(rng, m):
     args = {'add': lambda: (sheet(), content()), 'edit': lambda: (sheet(), content()), 'delete': lambda: (sheet(),),
             'copy': lambda: (sheet(), sheet()), 'move': lambda: (sheet(), sheet()), 'commit': lambda: (rng.getrandbits(32), mask()),
             'update': lambda: (mask(), revision()), 'revert': lambda: (mask(),), 'read': lambda: (revision(), sheet()),
-            'show': lambda: (sheet(),), 'status': lambda: (sheet(),), 'log': lambda: (revision(), sheet())}
+            'show': lambda: (sheet(),), 'status': lambda: (sheet(),), 'log': lambda: (revision(), sheet()), 'clear': tuple}
     return (name, rng.randint(1, 4), *args[name]())
 
 
@@ -247,7 +281,7 @@ def same_edit(rng, m):
     if agreeing and rng.random() < 0.7:
         sheet, revision = rng.choice(agreeing)
         before = m.namer(revision, sheet) - 1  # the sheet had other bytes there, or none
-        return ('update', seat, rng.choice([1 << sheet, 1 << sheet, 0xffffffff]), rng.choice([revision, revision, before]))
+        return ('update', seat, rng.choice([1 << sheet, 1 << sheet, 0xffffffff]), rng.choice([revision, before]))
     if not other or rng.random() < 0.25:
         current = [i for i, e in enumerate(entries) if m.pending(i, e) and not m.out_of_date(i, e)]
         return ('commit', seat, rng.getrandbits(32), 1 << rng.choice(current or [31]))
@@ -271,22 +305,23 @@ def look(rng, m):
 
 
 def random_list(count, seed):
-    """Random calls by four seats: the seed's first list that has all of W2 and W3, if one of twenty has."""
+    """Random calls by four seats on a store that is found with a tail: the seed's first list that has all of IN_LIST, if one of twenty has."""
     for n in range(20):
         rng, m, calls, answers = random.Random(f'{seed} {n}'), sheets.Machine(4096), [], []
+        m.tail = FOUND
         seen.clear()
         while len(calls) < count:
             calls.append(random_call(rng, m))
             answers.append(made(m, calls[-1]))
-        if not unmet(COUNTED):
+        if not unmet(IN_LIST):
             break
-    return 4096, calls, answers, m.used, m.history, m.seats
+    return 4096, calls, answers, m.used, m.tail, m.history, m.seats, FOUND
 
 
 def main():
     if len(sys.argv) >= 3 and sys.argv[1] == '--random':
         lists = [random_list(int(sys.argv[2]), int(sys.argv[3]) if len(sys.argv) > 3 else 1)]
-        if tally(int(sys.argv[2]) >= 1000):
+        if tally(int(sys.argv[2]) >= 1000, IN_LIST):
             sys.exit(1)
     elif len(sys.argv) == 2:
         lists = [from_json(json.loads(line)) for line in open(sys.argv[1])]

@@ -3,8 +3,9 @@
  *     memory SEED CALLS heap     pieces from malloc, for valgrind and AddressSanitizer to watch
  *     memory SEED CALLS pages    pieces that end, or start, at a page that cannot be touched; those lent as const lie in pages that cannot be written
  *
- * A refused call must leave its buffers as they were and carry no revision, a part of the store must carry one, and a part of a copy none. Exits 1, with the
- * seed and the call's number, if that is not so. A touch of a byte outside a piece ends the program.
+ * Now and then the store is found with a tail (W5). A refused call must leave its buffers as they were and carry no revision, a part of the store must carry one,
+ * and a part of a copy none; a commit that is done found no tail, and a clear leaves the history and zeros. Exits 1, with the seed and the call's number, if that
+ * is not so. A touch of a byte outside a piece ends the program.
  */
 #define _DEFAULT_SOURCE
 #include "sheetstore.h"
@@ -72,7 +73,7 @@ static void give_back(struct piece p) {
 
 static uint8_t store[MAX_STORE], copies[COPIES_LEN], hurt_store[MAX_STORE], hurt_copies[COPIES_LEN + SHEETS_BLOCK];
 static size_t store_len;
-static unsigned long answered[14], replayed[14];
+static unsigned long answered[15], replayed[15], cleared;
 
 static void seal(uint8_t *block) {
     uint32_t a = 0, b = 0;
@@ -81,6 +82,44 @@ static void seal(uint8_t *block) {
         b = (b + a) % 65521;
     }
     block[508] = (uint8_t)a, block[509] = (uint8_t)(a >> 8), block[510] = (uint8_t)b, block[511] = (uint8_t)(b >> 8);
+}
+
+static bool sealed(const uint8_t *block) {
+    uint8_t again[SHEETS_BLOCK];
+    memcpy(again, block, SHEETS_BLOCK);
+    seal(again);
+    return memcmp(again, block, SHEETS_BLOCK) == 0;
+}
+
+static bool all_zero(const uint8_t *bytes, size_t len) {
+    for (size_t i = 0; i < len; i++)
+        if (bytes[i] != 0) return false;
+    return true;
+}
+
+/* The bytes of an accepted store up to its last commit block, or its label. A tail has content, and a block with a wrong check. */
+static size_t history_len(const uint8_t *bytes, size_t len) {
+    while (len > SHEETS_BLOCK && (bytes[len - SHEETS_BLOCK] != 3 || !sealed(bytes + len - SHEETS_BLOCK))) len -= SHEETS_BLOCK;
+    return len;
+}
+
+/* Puts a tail behind the history of an accepted store, as far as there is room, in place of the one that is there. */
+static void put_tail(uint8_t *bytes, size_t len) {
+    size_t at = history_len(bytes, len);
+    const uint8_t *last = bytes + at - SHEETS_BLOCK;
+    uint32_t revision = 1 + (last[0] == 3 ? last[4] + 256u * last[5] : 0), count = below(3) ? below(4) : below(33);
+    memset(bytes + at, 0, len - at);
+    for (; count > 0 && at < len; count--, at += SHEETS_BLOCK) {
+        uint8_t *block = bytes + at;
+        block[0] = 2, block[2] = (uint8_t)below(256), block[4] = (uint8_t)revision, block[5] = (uint8_t)(revision >> 8);
+        memset(block + 16, (int)below(256), block[2]);
+        seal(block);
+    }
+    if (at < len && below(2)) {
+        for (size_t i = 0; i < SHEETS_BLOCK; i++) bytes[at + i] = (uint8_t)(below(2) ? below(4) : 0);
+        seal(bytes + at);
+        bytes[at + 508] ^= (uint8_t)(1 + below(255));
+    }
 }
 
 static void damage(uint8_t *buffer, size_t *len) {
@@ -102,13 +141,13 @@ static bool call(uint8_t *store_at, size_t store_size, uint8_t *copy_at, size_t 
     static const uint32_t some[] = {0, 1, 2, 3, 5, 31};
     uint32_t sheet = below(8) ? some[below(6)] : below(34), other = below(8) ? some[below(6)] : below(34);
     uint32_t mask = below(3) ? UINT32_MAX : below(2) ? 1u << sheet % 32 : below(4) * 0x01234567u, revision = below(below(2) ? 4 : 40);
-    uint32_t kind = below(18);
-    bool commits = kind >= 12;
+    uint32_t kind = below(19);
+    bool clears = kind == 12, commits = kind > 12;
     uint8_t text[481];
     size_t text_len = below(16) == 0 ? 480 + below(2) : below(4);
     memset(text, (int)below(256), sizeof text);
 
-    struct piece s = lend(store_at, store_size, commits), c = lend(copy_at, copy_size, kind < 8 || commits), t = lend(text, text_len, false);
+    struct piece s = lend(store_at, store_size, clears || commits), c = lend(copy_at, copy_size, kind < 8 || commits), t = lend(text, text_len, false);
     uint32_t refusal;
     switch (kind) {
     case 0: case 1: refusal = sheets_add(s.bytes, s.len, c.bytes, c.len, sheet, t.bytes, t.len).refusal; break;
@@ -134,10 +173,23 @@ static bool call(uint8_t *store_at, size_t store_size, uint8_t *copy_at, size_t 
         refusal = p.refusal;
         break;
     }
+    case 12: {
+        sheets_answer answer = sheets_clear(s.bytes, s.len);
+        refusal = answer.refusal;
+        if (answer.value != 0 || refusal > SHEETS_REFUSED_STORE_LAYOUT) return true;
+        break;
+    }
     default: refusal = sheets_commit(s.bytes, s.len, c.bytes, c.len, below(UINT32_MAX), mask).refusal;
     }
     answered[refusal]++;
     bool wrong = refusal != 0 && (memcmp(s.bytes, store_at, s.len) != 0 || memcmp(c.bytes, copy_at, c.len) != 0);
+    if ((clears || commits) && refusal == 0) {
+        size_t used = history_len(store_at, store_size);
+        bool tail = !all_zero(store_at + used, store_size - used);
+        wrong |= memcmp(s.bytes, store_at, used) != 0;
+        wrong |= clears ? !all_zero(s.bytes + used, s.len - used) : tail;
+        cleared += clears && tail;
+    }
     memcpy(store_at, s.bytes, s.len);
     memcpy(copy_at, c.bytes, c.len);
     give_back(s), give_back(c), give_back(t);
@@ -150,7 +202,7 @@ static size_t make_script(uint8_t *script) {
     for (size_t i = 0; i < len; i++) script[i] = (uint8_t)below(256);
     for (uint8_t *record = script; record < script + len; record += SHEETS_RECORD_LEN) {
         uint32_t bytes = below(8) ? below(4) : below(497);
-        record[0] = (uint8_t)(below(3) ? 1 + below(12) : 6), record[1] = (uint8_t)(1 + below(4));
+        record[0] = (uint8_t)(below(3) ? 1 + below(13) : 6), record[1] = (uint8_t)(1 + below(4));
         record[2] = (uint8_t)bytes, record[3] = (uint8_t)(bytes >> 8);
         if (record[0] != 6 && record[0] != 7 && record[0] != 8) record[4] = (uint8_t)below(6), record[5] = record[6] = record[7] = 0;
         record[8] = (uint8_t)(record[0] == 6 ? 255 : below(6)), record[9] = record[10] = record[11] = 0;
@@ -158,7 +210,7 @@ static size_t make_script(uint8_t *script) {
     if (len != 0 && below(8) == 0) {
         uint8_t *record = script + SHEETS_RECORD_LEN * below((uint32_t)(len / SHEETS_RECORD_LEN));
         switch (below(4)) {
-        case 0: record[0] = below(2) ? 0 : 13; break;
+        case 0: record[0] = below(2) ? 0 : 14; break;
         case 1: record[1] = below(2) ? 0 : 5; break;
         case 2: record[2] = 241, record[3] = 1; break; /* 497 bytes */
         default: len -= 1 + below(511);
@@ -181,7 +233,7 @@ static bool replay(uint8_t *store_at, size_t store_size, uint8_t *copies_at, siz
     bool wrong = refusal != 0 && (memcmp(s.bytes, store_at, s.len) != 0 || memcmp(c.bytes, copies_at, c.len) != 0 || memcmp(a.bytes, before, a.len) != 0);
     if (refusal == 0) {
         wrong |= memcmp(a.bytes + script_len, before + script_len, answers_len - script_len) != 0;
-        for (size_t at = 0; at < script_len; at += SHEETS_RECORD_LEN) wrong |= a.bytes[at] > 13;
+        for (size_t at = 0; at < script_len; at += SHEETS_RECORD_LEN) wrong |= a.bytes[at] > 14;
     }
     memcpy(store_at, s.bytes, s.len);
     memcpy(copies_at, c.bytes, c.len);
@@ -207,7 +259,7 @@ static bool fresh(size_t blocks) {
 
 static void tell(const char *what, const unsigned long *by_refusal) {
     printf("%s: done %lu; refused", what, by_refusal[0]);
-    for (int n = 1; n < 14; n++) printf("%s %d: %lu", n == 1 ? "" : ",", n, by_refusal[n]);
+    for (int n = 1; n < 15; n++) printf("%s %d: %lu", n == 1 ? "" : ",", n, by_refusal[n]);
     printf("\n");
 }
 
@@ -226,6 +278,7 @@ int main(int argc, char **argv) {
         bool replays = below(8) == 0; /* else one call, with the copy of one seat */
         uint8_t *copy = replays ? copies : copies + below(4) * SHEETS_COPY_LEN;
         size_t copy_len = replays ? COPIES_LEN : SHEETS_COPY_LEN;
+        if (below(32) == 0) put_tail(store, store_len);
         if (below(4) == 0) {
             size_t s = store_len, c = copy_len;
             memcpy(hurt_store, store, s);
@@ -243,5 +296,6 @@ int main(int argc, char **argv) {
     }
     tell("calls", answered);
     tell("replays", replayed);
+    printf("tails cleared: %lu\n", cleared);
     return 0;
 }

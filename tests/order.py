@@ -4,9 +4,10 @@
 order.py [--seed N] [--lists N] [--only K]
 
 For each list of calls another one that makes the same history by other calls: both call by call and as scripts, on four fresh stores of one size, which must be
-equal; and one that makes another history, which must leave other bytes. Then a history in a random order of its changes and of its content blocks: accepted,
-and read as the model does; more calls on it, which must leave the blocks that are there and lay out theirs in W1's order; and damage, as tests/calls.py and
-tests/replay.py do it. Then stores laid out by hand. At the first list that fails its seed and number are printed: `--seed N --only K` runs that list alone.
+equal, though one of them is found with tails on its way, which are cleared; and one that makes another history, which must leave other bytes. Then a history in a
+random order of its changes and of its content blocks: accepted, and read as the model does; more calls on it, which must leave the blocks that are there and lay
+out theirs in W1's order; and damage, as tests/calls.py and tests/replay.py do it. Then stores laid out by hand. At the first list that fails its seed and number
+are printed: `--seed N --only K` runs that list alone.
 """
 import collections, pathlib, random, sys
 
@@ -20,9 +21,9 @@ from sheets import ADD, CHANGE, COPY, DELETE
 LOOKS = ('read', 'show', 'status', 'log')
 WAYS = ('last commit', 'stamp', 'seat', 'byte', 'length', 'source', 'action')
 SHARED = ('copies that share a block', 'of them between two content blocks', 'in a block that W1 numbers otherwise', 'past block 255')
-BETWEEN = ('calls on entries that no commit takes', 'looks', *(f'calls refused with {n}' for n in range(7, 14)))
+BETWEEN = ('calls on entries that no commit takes', 'looks', 'clears', *(f'calls refused with {n}' for n in range(7, 14)))
 RING = 'rings of copies'
-seen = collections.Counter(dict.fromkeys(['pairs', 'stores in another order', 'left out', *SHARED, RING, *BETWEEN, *(f'another {way}' for way in WAYS)], 0))
+seen = collections.Counter(dict.fromkeys(['pairs', 'tails cleared', 'stores in another order', 'left out', *SHARED, RING, *BETWEEN, *(f'another {way}' for way in WAYS)], 0))
 
 
 # ---- histories
@@ -127,14 +128,6 @@ def mask(chosen):
     return sum(1 << i for i in chosen)
 
 
-def twin(model):
-    """The same machine, apart."""
-    other = sheets.Machine(model.blocks)
-    other.history, other.used = list(model.history), model.used
-    other.seats = {k: list(entries) for k, entries in model.seats.items()}
-    return other
-
-
 class Maker:
     """Makes calls on a model, and keeps them with their answers. `commit` makes a given commit in one way of many, with other work in between."""
 
@@ -159,11 +152,11 @@ class Maker:
     def noise(self, seat=1, kept=frozenset()):
         """Random calls that leave the history, and these entries of the seat: looks, refused calls, work of other seats, and of this one on other sheets."""
         for _ in range(self.rng.choice([0, 0, 1, 2])):
-            c, trial = lists.random_call(self.rng, self.model), twin(self.model)
+            c, trial = lists.random_call(self.rng, self.model), lists.twin(self.model)
             answer = trial.call(*c)
             if trial.last() == self.model.last() and all(trial.seats[seat][i] == self.model.seats[seat][i] for i in kept):
                 self.call(*c)
-                self.seen[f'calls refused with {answer[1]}' if answer[0] == 'no' else BETWEEN[c[0] in LOOKS]] += 1
+                self.seen[f'calls refused with {answer[1]}' if answer[0] == 'no' else BETWEEN[2 if c[0] == 'clear' else c[0] in LOOKS]] += 1
 
     def based(self, seat, sheet, revision, kept):
         """Brings an entry to what it is at a revision, and perhaps others, but none that is kept."""
@@ -325,7 +318,13 @@ def pair(engine, rng):
     for what, maker in (('the first list', first), ('the second list', second)):
         desk, script = calls.Desk.fresh(engine, blocks), replay.Desk.fresh(engine, blocks)
         for c in maker.calls:
+            if desk.model.tail and c[0] == 'commit':
+                desk.call('clear', 1)
+                seen['tails cleared'] += 1
             desk.call(*c)
+            if maker is second and rng.random() < 0.1:
+                desk.leave(calls.random_tail(rng, desk.model))
+        desk.call('clear', 1)
         script.replay(what, maker.script(), maker.said)
         script.held_to(what, maker.model)
         if not desk.store == script.store == wanted:
@@ -353,9 +352,9 @@ def other_order(engine, rng, number):
         model.seats = sheets.Machine(model.blocks).seats
     shuffled = lambda xs: rng.sample(xs, len(xs))
     store = layout.store_bytes(model.blocks, history, shuffled, shuffled)
-    if accept.refusal(store) or layout.history_of(store) != (history, model.used):
+    if accept.refusal(store) or layout.history_of(store) != (history, model.used, 0):
         return fail('the model refuses a store in another order')
-    desk, more = calls.Desk(engine, twin(model), store), Maker(rng, twin(model))
+    desk, more = calls.Desk(engine, lists.twin(model), store), Maker(rng, lists.twin(model))
     script = replay.Desk(engine, store, b''.join(desk.copies.values()))
     for revision in range(model.last() + 2):
         for sheet in range(33):
@@ -416,7 +415,7 @@ def main():
             break
     by_hand(engine)
     if given.enough and not wrong():
-        for what in SHARED + BETWEEN:
+        for what in (*SHARED, *BETWEEN, 'tails cleared'):
             if not seen[what]:
                 fail(f'the lists have none of: {what}')
         if seen['left out'] > given.lists // 10:

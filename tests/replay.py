@@ -3,9 +3,10 @@
 
 replay.py [--seed N] [--lists N] [--only K]
 
-Lists of random calls by four seats, in several scripts on one desk and in one script on another. What a record has no use for holds anything, and so does what
-the answers have beyond the script. Then damaged buffers and bad scripts: the first refusal by tests/model/accept.py and nothing changed, or the model's run.
-Then every fault alone and every two of them, and the worked script of docs/LAYOUT.md. What the calls met of W2 and W3 is counted as in tests/calls.py.
+Lists of random calls by four seats, in several scripts on one desk and in one script on another; or in several scripts, and the store is found with a tail between
+them. What a record has no use for holds anything, and so does what the answers have beyond the script. Then damaged buffers, with and without a tail, and bad
+scripts: the first refusal by tests/model/accept.py and nothing changed, or the model's run. Then every fault alone and every two of them, scripts that begin on
+a tail, and the worked script of docs/LAYOUT.md. What the calls met of W2, W3 and W5 is counted as in tests/calls.py.
 At the first list that fails its seed and number are printed: `--seed N --only K` runs that list alone.
 """
 import itertools, pathlib, random, re, sys
@@ -13,7 +14,7 @@ import itertools, pathlib, random, re, sys
 sys.path.insert(0, str(pathlib.Path(__file__).resolve().parent))
 sys.path.insert(0, str(pathlib.Path(__file__).resolve().parent / 'model'))
 import accept, layout, lists, script, sheets
-from calls import damage, played
+from calls import damage, junk, played, random_tail
 from engine import Engine
 
 SEATS = (1, 2, 3, 4)
@@ -70,6 +71,10 @@ class Desk:
         if (bytes(self.store), bytes(self.copies), bytes(answers)) != before:
             fail(f'{what} changed a buffer')
 
+    def leave(self, tail):
+        """The store is found with these blocks behind its history."""
+        self.store[:] = layout.tailed(self.store, tail)
+
     def held_to(self, what, model, store=None):
         """Every byte of the layouts that the calls write: on a fresh store that of the history, on another one the store given."""
         if self.store != (store or layout.store_bytes(model.blocks, model.history)):
@@ -96,18 +101,23 @@ def random_calls(rng, model, count):
 
 
 def random_list(engine, rng):
-    """A list in several scripts on one desk, and in one script on another."""
-    blocks = rng.choice([2, 3, 4, 8, 12, 32, 64, 65, 200, 1000, 4096])
-    model, desk, whole, said = sheets.Machine(blocks), Desk.fresh(engine, blocks), b'', []
+    """A list in several scripts on one desk, and in one script on another. The latter where no script found a tail, which no call makes."""
+    blocks, tails = rng.choice([2, 3, 4, 8, 12, 32, 64, 65, 200, 1000, 4096]), rng.random() < 0.4
+    model, desk, tail, whole, said = sheets.Machine(blocks), Desk.fresh(engine, blocks), [], b'', []
     for n in range(rng.randint(1, 8)):
+        if tails and rng.random() < 0.7:
+            tail = random_tail(rng, model)
+            desk.leave(tail)
+            model.tail = len(tail)
         some, answers = random_calls(rng, model, rng.choice([0, 1, 2, 20, 60, 60]))
         text = b''.join(random_record(rng, c) for c in some)
         desk.replay(f'script {n}', text, answers, rng.randbytes(rng.choice([0, 1, 511, 512, 1000])))
-        desk.held_to(f'script {n}', model)
+        desk.held_to(f'script {n}', model, layout.tailed(layout.store_bytes(blocks, model.history), tail if model.tail else []))
         whole, said = whole + text, said + answers
-    other = Desk.fresh(engine, blocks)
-    other.replay('the whole script', whole, said, rng.randbytes(rng.choice([0, 700])))
-    other.held_to('the whole script', model)
+    if not tails:
+        other = Desk.fresh(engine, blocks)
+        other.replay('the whole script', whole, said, rng.randbytes(rng.choice([0, 700])))
+        other.held_to('the whole script', model)
     return desk, model
 
 
@@ -132,7 +142,7 @@ def bad_script(rng, text):
     at = rng.randrange(len(text) // 512) * 512
     fault = rng.choice(['kind', 'seat', 'bytes', 'length'])
     if fault == 'kind':
-        text[at] = rng.choice([0, 13, 255])
+        text[at] = rng.choice([0, 14, 255])
     elif fault == 'seat':
         text[at + 1] = rng.choice([0, 5, 255])
     elif fault == 'bytes':
@@ -148,6 +158,8 @@ def damaged(engine, rng, good, model):
     """Buffers that are damaged, in any number of places: the refusal that comes first, or the model's run."""
     for n in range(25 if model.blocks <= 200 else 5):
         store, copies = bytearray(good.store), {k: bytearray(c) for k, c in cut(good.copies).items()}
+        if rng.random() < 0.4:
+            store[:] = layout.tailed(store, random_tail(rng, model))
         for _ in range(rng.choice([0, 1, 1, 2])):
             damage(rng, store, copies[rng.choice(SEATS)], model.last())
         if rng.random() < 0.1:
@@ -165,7 +177,7 @@ def damaged(engine, rng, good, model):
             desk.refused(what, text, answers, number)
             continue
         accepted = sheets.Machine(len(store) // 512)
-        accepted.history, accepted.used = layout.history_of(bytes(store))
+        accepted.history, accepted.used, accepted.tail = layout.history_of(bytes(store))
         accepted.seats = {k: layout.entries_of(c) for k, c in copies.items()}
         said, wanted = played(accepted, bytes(store), some)
         desk.replay(what, text, said)
@@ -200,8 +212,8 @@ def changed(at, data):
 def faults():
     """In the order of the refusals: the buffer that has the fault, the refusal, and what makes the fault. The store has one revision, the script three calls."""
     out = [('store', 1, in_store(lambda b: b[:-1])), ('store', 1, in_store(lambda b: b[:512])), ('store', 1, in_store(lambda b: b + bytes(512 * 4096))),
-           ('store', 2, in_store(changed(600, b'\1'))),
-           ('store', 3, in_store(changed(0, layout.sealed([1, 2])))),
+           ('store', 2, in_store(changed(600, b'\1'))), ('store', 2, in_store(changed(5, b'\1'))),
+           ('store', 3, in_store(changed(0, layout.sealed([1, 2])))), ('store', 3, in_store(changed(4 * 512, b'junk'))),
            ('copies', 4, lambda s: s['copies'].pop()), ('copies', 4, lambda s: s['copies'].append(0)), ('copies', 4, lambda s: s.update(copies=s['copies'][:layout.COPY_LEN]))]
     for k in SEATS:
         out += [(f'copy {k}', 5, in_copy(k, 3, bytes(512))), (f'copy {k}', 5, in_copy(k, 0, layout.sealed([4, 5]))),
@@ -209,19 +221,25 @@ def faults():
                 (f'copy {k}', 7, in_copy(k, 0, layout.sealed([4, k % 4 + 1])))]
     bad = [lambda b: b[:-1], lambda b: b + bytes(1), lambda b: b[:1], lambda b: b + bytes(512)]
     for record in (0, 1, 2):
-        bad += [changed(512 * record, bytes([kind])) for kind in (0, 13, 255)]
+        bad += [changed(512 * record, bytes([kind])) for kind in (0, 14, 255)]
+        bad += [changed(512 * record, bytes([13, seat])) for seat in (0, 5)] + [changed(512 * record, bytes([13, 1]) + layout.two(497))]
         bad += [changed(512 * record + 1, bytes([seat])) for seat in (0, 5, 255)]
         bad += [changed(512 * record + 2, layout.two(n)) for n in (497, 65535)]
     out += [('script', 7, in_script(b)) for b in bad]
     return out + [('answers', 7, lambda s, n=n: s.update(answers=s['answers'][:n])) for n in (1535, 1024, 0)]
 
 
-def every_fault(engine):
-    """Each fault alone, and every two of them in different buffers: the one that comes first."""
+def one_revision():
+    """A model with one revision, its store of 8 blocks and its copies."""
     model = sheets.Machine(8)
     model.call('add', 2, 5, b'A')
     model.call('commit', 2, 7, 1 << 5)
-    store, copies = layout.store_bytes(8, model.history), b''.join(layout.copy_bytes(k, model.seats[k]) for k in SEATS)
+    return model, layout.store_bytes(8, model.history), b''.join(layout.copy_bytes(k, model.seats[k]) for k in SEATS)
+
+
+def every_fault(engine):
+    """Each fault alone, and every two of them in different buffers: the one that comes first."""
+    model, store, copies = one_revision()
     text = b''.join(script.call_record(*c) for c in [('add', 1, 6, b'B' * script.MOST), ('edit', 2, 5, b'C'), ('commit', 2, 8, 1 << 5)])
     Desk(engine, store, copies).replay('no fault', text, [('no', 7), ('done',), ('revision', 2)], b'rest')
     none = Desk(engine, store, copies)
@@ -237,6 +255,23 @@ def every_fault(engine):
         Desk(engine, s['store'], s['copies']).refused(f'faults {[f[:2] for f in chosen]}', s['script'], s['answers'], chosen[0][1])
     swapped = {k: copies[(k - 1) * layout.COPY_LEN:k * layout.COPY_LEN] for k in (1, 3, 2, 4)}
     Desk(engine, store, b''.join(swapped.values())).refused('copies in another order', text, bytearray(1536), 7)
+
+
+def on_tails(engine):
+    """Scripts that begin on a tail: a commit; then an edit, a commit, a clear and the commit again, which leaves the store that it leaves where there was no tail."""
+    model, store, copies = one_revision()
+    edit, commit, after = ('edit', 2, 5, b'C'), ('commit', 2, 8, 1 << 5), lists.twin(model)
+    for c in (edit, commit):
+        after.call(*c)
+    for what, last in junk(random.Random(0), 2).items():
+        for tail in ([last], [layout.content(2, b'C')], [layout.content(2, b'C')] * 3 + [last]):
+            desk = Desk(engine, store, copies)
+            desk.leave(tail)
+            desk.replay(f'on a tail with {what}', script.call_record(*commit), [('no', 14)])
+            desk.held_to(f'on a tail with {what}', model, layout.tailed(store, tail))
+            some = [edit, commit, ('clear', 3), commit, ('clear', 1)]
+            desk.replay(f'on a tail with {what}', b''.join(script.call_record(*c) for c in some), [('done',), ('no', 14), ('done',), ('revision', 2), ('done',)])
+            desk.held_to(f'after a tail with {what}', after)
 
 
 def example(engine):
@@ -271,8 +306,9 @@ def main():
             break
     filling(engine)
     every_fault(engine)
+    on_tails(engine)
     example(engine)
-    never = lists.tally(given.enough and not failed)
+    never = lists.tally(given.enough and not failed, [r for r in lists.COUNTED if r != lists.FIRST])
     print(f'{scripts} scripts, {calls} calls done, {failed} wrong')
     sys.exit(failed + never != 0)
 

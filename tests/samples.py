@@ -1,5 +1,6 @@
 #!/usr/bin/env python3
-"""Lists and calls with known answers, on the engine's C library and on tests/model: samples that were made elsewhere, and lists written by hand from W2 and W3.
+"""Lists and calls with known answers, on the engine's C library and on tests/model: samples that were made elsewhere, and lists written by hand from W2, W3 and
+W5.
 
 samples.py FILE..
 
@@ -31,6 +32,9 @@ def by_calls(engine, what, blocks, some, answers):
     """Call by call, on the engine beside the model. Both are then at the end."""
     desk, before = calls.Desk.fresh(engine, blocks), calls.failed
     for c, wanted in zip(some, answers, strict=True):
+        if c[0] == 'found':
+            desk.leave(c[1])
+            continue
         said = desk.call(*c)
         if said != wanted:
             fail(f'the model at {c}: {said}, not {wanted}')
@@ -41,24 +45,26 @@ def by_calls(engine, what, blocks, some, answers):
 
 
 def by_script(engine, what, blocks, some, answers):
-    """As one script; a call that takes more bytes than a record holds is made by itself, between two scripts."""
+    """As one script; a call that takes more bytes than a record holds is made by itself, between two scripts, and there the store can be found with a tail."""
     desk = replay.Desk.fresh(engine, blocks)
-    short = lambda pair: pair[0][0] not in ('add', 'edit') or len(pair[0][-1]) <= script.MOST
+    short = lambda pair: pair[0][0] != 'found' and (pair[0][0] not in ('add', 'edit') or len(pair[0][-1]) <= script.MOST)
     for encodable, pairs in itertools.groupby(zip(some, answers), short):
         part, said = zip(*pairs)
         if encodable:
             desk.replay(what, b''.join(script.call_record(*c) for c in part), said, b'rest')
             continue
         for c, a in zip(part, said):
-            if engine.call(c[0], desk.store, replay.cut(desk.copies)[c[1]], *c[2:]) != a or a[0] != 'no':
+            if c[0] == 'found':
+                desk.leave(c[1])
+            elif engine.call(c[0], desk.store, replay.cut(desk.copies)[c[1]], *c[2:]) != a or a[0] != 'no':
                 fail(f'{what}: {c} is not {a}')
     return desk
 
 
 def ends(what, end, wanted, store, copies):
     """What the buffers hold at the end of a list."""
-    history, used = layout.history_of(store)
-    if (used, history, {k: layout.entries_of(c) for k, c in copies.items()}) != wanted:
+    history, used, tail = layout.history_of(store)
+    if (used, tail, history, {k: layout.entries_of(c) for k, c in copies.items()}) != wanted:
         fail(f'{what}: another end')
     digest = lambda buffer: hashlib.sha256(buffer).hexdigest()
     if {'store': digest(store), 'copies': [digest(c) for c in copies.values()]} != end['sha256']:
@@ -71,7 +77,7 @@ def from_lists(engine, path):
         blocks, some, answers, *wanted = lists.from_json(l)
         desk, scripted = (run(engine, what, blocks, some, answers) for run in (by_calls, by_script))
         model = desk.model
-        if [model.used, model.history, model.seats] != wanted:
+        if [model.used, model.tail, model.history, model.seats] != wanted:
             fail(f'{what}: another end of the model')
         ends(what, l['end'], tuple(wanted), desk.store, desk.copies)
         ends(f'{what} as a script', l['end'], tuple(wanted), scripted.store, replay.cut(scripted.copies))
@@ -115,10 +121,18 @@ def from_cases(engine, path):
             fail(f'{what} leaves other buffers')
 
 
-# ---- W2 and W3 by hand
+# ---- W2, W3 and W5 by hand
 
 START = [(('add', 1, 4, b'A'), 'done'), (('add', 1, 5, b'A'), 'done'), (('add', 1, 6, b'A'), 'done'), (('commit', 1, 7, ALL), 'revision 1'),
          (('update', 2, ALL, 1), 'done')]
+WRONG = layout.label()[:-1] + b'\xff'  # a block with a wrong check
+
+
+def found(*tail):
+    """The store is found with these blocks behind its history; nothing is answered."""
+    return ('found', list(tail)), None
+
+
 BY_HAND = {
     # W2
     'the same edit': START + [
@@ -270,6 +284,38 @@ BY_HAND = {
         (('delete', 1, 4), 'done'), (('commit', 1, 9, 1 << 4), 'revision 3'), (('status', 1, 4), 'status 0 3'), (('status', 2, 4), 'status 3 3'),
         (('delete', 1, 6), 'done'), (('commit', 1, 10, 1 << 6), 'no 13'), (('status', 1, 6), 'status 6 1'), (('status', 2, 6), 'status 1 1'),
         (('read', 1, 3, 6), ('bytes', b'A', 1)), (('read', 1, 2, 4), ('bytes', b'A', 1))],
+    # W5
+    'clears without a tail': [
+        (('clear', 1), 'done'), (('read', 1, 0, 5), 'no 8'), (('add', 1, 5, b'A'), 'done'), (('clear', 2), 'done'), (('status', 1, 5), 'status 5 0'),
+        (('commit', 1, 7, ALL), 'revision 1'), (('clear', 3), 'done'), (('clear', 4), 'done'), (('read', 1, 1, 5), ('bytes', b'A', 1)),
+        (('edit', 1, 5, b'B'), 'done'), (('clear', 1), 'done'), (('commit', 1, 8, ALL), 'revision 2'), (('read', 1, 2, 5), ('bytes', b'B', 2))],
+    'beside content': START + [
+        found(layout.content(2, b'B'), layout.content(2, b'')),
+        (('read', 1, 1, 5), ('bytes', b'A', 1)), (('read', 1, 2, 5), 'no 7'), (('log', 1, 1, 5), ('log', 1, 7, 3, (1, None))), (('log', 1, 2, 5), 'no 7'),
+        (('status', 3, 5), 'status 8 1'), (('show', 3, 5), ('bytes', b'A', 1)), (('update', 3, ALL, 1), 'done'), (('update', 3, ALL, 2), 'no 7'),
+        (('edit', 1, 5, b'B'), 'done'), (('status', 1, 5), 'status 2 1'), (('revert', 1, 1 << 5), 'done'), (('edit', 1, 5, b'B'), 'done'),
+        (('add', 2, 8, b'C'), 'done'), (('copy', 2, 5, 9), 'done'), (('move', 2, 6, 10), 'done'), (('delete', 2, 4), 'done'), (('show', 2, 4), ('bytes', b'A', 1)),
+        (('commit', 1, 8, ALL), 'no 14'), (('commit', 2, 8, ALL), 'no 14'), (('clear', 3), 'done'), (('read', 1, 1, 5), ('bytes', b'A', 1)),
+        (('commit', 1, 8, ALL), 'revision 2'), (('read', 1, 2, 5), ('bytes', b'B', 2)), (('commit', 2, 9, ALL), 'revision 3'),
+        (('log', 1, 3, 9), ('log', 2, 9, 5, (4, (5, 1)))), (('clear', 3), 'done'), (('read', 1, 3, 10), ('bytes', b'A', 3))],
+    'beside a block with a wrong check': START + [
+        found(WRONG), (('read', 1, 1, 6), ('bytes', b'A', 1)), (('status', 2, 6), 'status 1 1'), (('edit', 2, 6, b'B'), 'done'), (('commit', 2, 8, ALL), 'no 14'),
+        (('clear', 2), 'done'), (('commit', 2, 8, ALL), 'revision 2'), found(layout.content(3, b'C'), WRONG), (('read', 1, 2, 6), ('bytes', b'B', 2)),
+        (('delete', 1, 4), 'done'), (('commit', 1, 9, ALL), 'no 14'), (('clear', 1), 'done'), (('clear', 1), 'done'), (('commit', 1, 9, ALL), 'revision 3'),
+        (('read', 1, 3, 4), 'no 8')],
+    'commits refused for the tail first': START + [
+        found(WRONG), (('commit', 1, 8, 0), 'no 14'), (('commit', 1, 8, ALL), 'no 14'), (('clear', 1), 'done'), (('commit', 1, 8, 0), 'no 7'),
+        (('commit', 1, 8, ALL), 'no 10'), (('edit', 1, 5, b'B'), 'done'), (('edit', 2, 5, b'C'), 'done'), (('commit', 1, 8, ALL), 'revision 2'),
+        found(layout.content(3, b'C')), (('commit', 2, 9, ALL), 'no 14'), (('update', 2, ALL, 2), 'no 12'), (('clear', 1), 'done'), (('commit', 2, 9, ALL), 'no 11')],
+    'a fresh store with a tail': [
+        found(*[layout.content(1, b'A')] * 31), (('read', 1, 0, 5), 'no 8'), (('read', 1, 1, 5), 'no 7'), (('log', 1, 1, 5), 'no 7'), (('status', 1, 5), 'status 0 0'),
+        (('show', 1, 5), 'no 8'), (('add', 1, 5, b'A'), 'done'), (('commit', 1, 7, ALL), 'no 14'), (('clear', 1), 'done'), (('commit', 1, 7, ALL), 'revision 1'),
+        (('read', 1, 1, 5), ('bytes', b'A', 1))],
+    'no room behind the tail, and none counted': START + [
+        *((('add', 4, i, b'X'), 'done') for i in range(6, 32)), (('status', 4, 31), 'status 5 0'), found(*[layout.content(2, b'X')] * 26, WRONG),
+        (('commit', 4, 8, ALL), 'no 14'), (('commit', 4, 8, ALL ^ 1 << 6), 'no 14'), (('clear', 4), 'done'), (('commit', 4, 8, ALL), 'no 11'),
+        (('commit', 4, 8, ALL ^ 1 << 6), 'revision 2'), (('edit', 1, 5, b'B'), 'done'), (('commit', 1, 9, ALL), 'no 13'), (('delete', 1, 4), 'done'),
+        (('commit', 1, 9, 1 << 4), 'revision 3'), (('clear', 1), 'done'), (('read', 1, 3, 31), ('bytes', b'X', 2))],
 }
 LONG = {  # on a larger store
     'past revision 255': START + [

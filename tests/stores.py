@@ -1,8 +1,8 @@
 #!/usr/bin/env python3
-"""Stores handed to the engine, good and bad, each with the answer that document 01 fixes.
+"""Stores handed to the engine, good and bad, each with the answer that document 01 and W5 of document 02 fix.
 
-Lengths; every single-byte change of a good store (2); each rule of "Blocks" broken in a resealed store (3); histories in
-sheet order and in others, read back at every revision. Nothing may change in a buffer that is only read.
+Lengths; every single-byte change of a good store (2, 3 or a tail, by the block); each rule of "Blocks" broken in a resealed store (3); histories in
+sheet order and in others, read back at every revision. Nothing may change in a buffer that is only read. Tails are in tests/tails.py.
 """
 import pathlib, random, sys
 
@@ -20,7 +20,8 @@ def expect(what, got, wanted):
         passed += 1
     else:
         failed += 1
-        print(f'{what}: {got}, not {wanted}')
+        if failed <= 10:
+            print(f'{what}: {got}, not {wanted}'[:400])
 
 
 def refusal(engine, store):
@@ -56,13 +57,19 @@ def lengths(engine):
 
 
 def single_bytes(engine):
+    """Each byte changed of a store with two commits. Refusal 2 skips "the last block that isn't all zero", so in block 3, which is commit 2, and in block 4, which is
+    a zero block, it makes a tail; in block 5 it stands behind a zero block."""
     h = [(2, 7, {5: (1, b'A', None)}), (2, 8, {5: (3, None, None), 6: (4, b'A', (5, 1))})]
     good = layout.store_bytes(6, h)
+    wanted = [2, 2, 2, 0, 0, 3]
+    last = {3: 1, 4: 2}
     expect('the good store', refusal(engine, bytearray(good)), 0)
     for k in range(len(good)):
-        store = bytearray(good)
+        store, block = bytearray(good), k // 512
         store[k] ^= 1 + k % 255
-        expect(f'byte {k} changed', refusal(engine, store), 2)
+        expect(f'byte {k} changed', refusal(engine, store), wanted[block])
+        if block in last:
+            expect(f'byte {k} changed, the last revision', [engine.log(store, r, 6)[0] for r in (1, 2, 3)], ['log' if r <= last[block] else 'no' for r in (1, 2, 3)])
 
 
 def broken_rules(engine):
@@ -78,12 +85,13 @@ def broken_rules(engine):
         'changes in another order': one + pair + [b(2, 2, 8, [l(7, 1, 3), l(6, 1, 4)])],
         'contents in another order': one + pair + [b(2, 2, 8, [l(6, 1, 4), l(7, 1, 3)])],
         'a change to the same bytes': one + [c(2, b'A'), b(2, 2, 8, [l(5, 2, 3)])],
+        'contents without a commit, a tail': one + [c(2, b'')],
     }
     bad = {
         'no label': [bytes(512)] + one[1:],
         'a label in the middle': one + [layout.label()],
         'a block after a blank one': one + [bytes(512), c(2, b'')],
-        'contents without a commit': one + [c(2, b'')],
+        'contents without a commit, then one of another revision': one + [c(2, b''), b(3, 2, 9, [l(5, 2, 3)])],
         'a content of another revision': one + [c(1, b'B'), b(2, 2, 8, [l(5, 2, 3)])],
         'a commit of another revision': one + [c(2, b'B'), b(3, 2, 8, [l(5, 2, 3)])],
         'seat 0': [one[0], one[1], b(1, 0, 7, [l(5, 1, 1)])],

@@ -53,6 +53,10 @@ pub fn commit(store: &mut [u8], copy: &mut [u8], stamp: u32, mask: u32) -> Answe
     unsafe { c::sheets_commit(store.as_mut_ptr(), store.len(), copy.as_mut_ptr(), copy.len(), stamp, mask) }
 }
 
+pub fn clear(store: &mut [u8]) -> Answer {
+    unsafe { c::sheets_clear(store.as_mut_ptr(), store.len()) }
+}
+
 pub fn update(store: &[u8], copy: &mut [u8], mask: u32, revision: u32) -> Answer {
     unsafe { c::sheets_update(store.as_ptr(), store.len(), copy.as_mut_ptr(), copy.len(), mask, revision) }
 }

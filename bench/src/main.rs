@@ -41,27 +41,46 @@ fn report(title: &str, rounds: usize, mut fs: Vec<(&str, Box<dyn FnMut() + '_>)>
     times
 }
 
+/// The engine accepts the store too, with the same last revision and the same used blocks: it clears all behind them and nothing else.
+fn agreed(bytes: &[u8], opened: store::Opened) {
+    assert_eq!(engine::read(bytes, 0, 0).refusal, 8);
+    let last = opened.last as u32;
+    assert!(engine::read(bytes, last, 0).refusal != 7 && engine::read(bytes, last + 1, 0).refusal == 7);
+    let mut cleared = bytes.to_vec();
+    assert_eq!(engine::clear(&mut cleared).refusal, 0);
+    let (used, rest) = cleared.split_at(opened.used * store::BLOCK);
+    assert!(used == &bytes[..used.len()] && rest.iter().all(|&x| x == 0));
+}
+
+/// The store with wrong checks in its last two blocks. The last is skipped, the one before it is refused: the sums of all blocks but one, and nothing else.
+fn broken(bytes: &[u8]) -> Vec<u8> {
+    let mut broken = bytes.to_vec();
+    broken.chunks_exact_mut(store::BLOCK).rev().take(2).for_each(|b| b[511] ^= 1);
+    assert_eq!(engine::read(&broken, 0, 0).refusal, 2);
+    assert_eq!(store::open(&broken), Err(2));
+    broken
+}
+
 fn accept() {
     for (kind, bytes) in [
         ("ordinary", make::ordinary(4096)),
+        ("ordinary with a tail", make::with_tail(4096)),
+        ("nearly empty", make::nearly_empty(4096)),
         ("most copies", make::worst(4096)),
         ("most compared, to the last byte", make::compared(4096, 479)),
         ("most compared, unlike in the first byte", make::compared(4096, 0)),
     ] {
         let opened = store::open(&bytes).expect("the maker lays out a history");
-        assert_eq!(engine::read(&bytes, 0, 0).refusal, 8, "the engine accepts it too");
+        agreed(&bytes, opened);
         println!("{kind}: {} commits, {} blocks used", opened.last, opened.used);
-        let mut broken = bytes.clone();
-        *broken.last_mut().expect("a store has bytes") ^= 1;
-        assert_eq!(engine::read(&broken, 0, 0).refusal, 2, "a wrong check in the last block: all the sums, and nothing else");
-        let (a, b, c, d) = (bytes.clone(), bytes.clone(), bytes.clone(), bytes.clone());
+        let (a, b, c, d, broken) = (bytes.clone(), bytes.clone(), bytes.clone(), bytes.clone(), broken(&bytes));
         report(
             "  acceptance of 4,096 blocks",
             60,
             vec![
                 ("Rust version", Box::new(move || keep(store::open(black_box(&a))))),
                 ("engine (read 0 0, which is acceptance)", Box::new(move || keep(engine::read(black_box(&b), 0, 0)))),
-                ("engine, sums alone (last check wrong)", Box::new(move || keep(engine::read(black_box(&broken), 0, 0)))),
+                ("engine, sums alone (last two checks wrong)", Box::new(move || keep(engine::read(black_box(&broken), 0, 0)))),
                 ("Rust version, sums alone", Box::new(move || keep(sums::all_right(black_box(&c), sums::fours)))),
                 ("zlib's adler32 over the same bytes", Box::new(move || keep(engine::adler(black_box(&d))))),
             ],
@@ -74,12 +93,10 @@ fn accept() {
     }
 }
 
-/// A store of 4,096 blocks, and the sums of all of them: the engine's (the last check is wrong, so that it does nothing else), each form in Rust, zlib's.
+/// A store of 4,096 blocks, and the sums of all of them: the engine's (the last two checks are wrong, so that it does nothing else, and leaves out the last block), each form in Rust, zlib's.
 fn summers() -> Vec<(&'static str, Box<dyn FnMut()>)> {
     let bytes: &'static [u8] = make::ordinary(4096).leak();
-    let mut broken = bytes.to_vec();
-    *broken.last_mut().expect("a store has bytes") ^= 1;
-    assert_eq!(engine::read(&broken, 0, 0).refusal, 2);
+    let broken = broken(bytes);
     fn of(bytes: &'static [u8], form: impl Fn(&[u8]) -> (u32, u32) + Copy + 'static) -> Box<dyn FnMut()> {
         let high = [255; 512];
         assert!(sums::all_right(bytes, form) && form(&high) == sums::by_byte(&high));
@@ -159,7 +176,8 @@ fn calls() {
         let mut edited = copy.clone();
         assert_eq!(engine::edit(&store, &mut edited, sheet, b"edited").refusal, 0);
         let bytes = [7; 480];
-        let calls: [Call; 16] = [
+        let (junk, tail) = ([7; store::BLOCK], used * store::BLOCK..(used + 1) * store::BLOCK);
+        let calls: [Call; 18] = [
             ("acceptance (read 0 0)", &copy, &|s, _| (engine::read(s, 0, 0).refusal != 8) as u32),
             ("read", &copy, &|s, _| engine::read(s, last, sheet).refusal),
             ("log", &copy, &|s, _| engine::log(s, last, sheet).refusal),
@@ -174,6 +192,11 @@ fn calls() {
             ("update of all sheets from 0 to the last", &fresh, &|s, w| engine::update(s, w, all, last).refusal),
             ("update of all sheets from the last to 1", &copy, &|s, w| engine::update(s, w, all, 1).refusal),
             ("revert of one edit", &edited, &|s, w| engine::revert(s, w, 1 << sheet).refusal),
+            ("clear, no tail", &copy, &|s, _| engine::clear(s).refusal),
+            ("clear of a tail of one block", &copy, &|s, _| {
+                s[tail.clone()].copy_from_slice(&junk);
+                engine::clear(s).refusal
+            }),
             ("Rust version: acceptance", &copy, &|s, _| store::open(s).err().unwrap_or(0)),
             ("Rust version: acceptance and read", &copy, &|s, _| {
                 let o = store::open(s).expect("accepted");

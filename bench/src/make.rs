@@ -54,24 +54,25 @@ impl Maker {
         &mut self.store[at..at + BLOCK]
     }
 
+    /// Writes a content block that carries revision r. Its number.
+    fn content(&mut self, r: usize, bytes: &[u8]) -> usize {
+        let b = self.block();
+        b[0] = 2;
+        b[2..4].copy_from_slice(&(bytes.len() as u16).to_le_bytes());
+        b[4..6].copy_from_slice(&(r as u16).to_le_bytes());
+        b[16..16 + bytes.len()].copy_from_slice(bytes);
+        seal(b);
+        self.used - 1
+    }
+
     /// Writes a commit: contents first, then the commit block. The number of its first block.
     pub fn commit(&mut self, seat: u8, stamp: u32, changes: &[Change]) -> usize {
         let first = self.used;
         self.last += 1;
-        let r = (self.last as u16).to_le_bytes();
         let mut lines = vec![];
         for c in changes {
             let at = match c.content {
-                Some(bytes) => {
-                    let at = self.used as u16;
-                    let b = self.block();
-                    b[0] = 2;
-                    b[2..4].copy_from_slice(&(bytes.len() as u16).to_le_bytes());
-                    b[4..6].copy_from_slice(&r);
-                    b[16..16 + bytes.len()].copy_from_slice(bytes);
-                    seal(b);
-                    at
-                }
+                Some(bytes) => self.content(self.last, bytes) as u16,
                 None => c.shared,
             };
             lines.extend([c.sheet, c.action]);
@@ -79,6 +80,7 @@ impl Maker {
             lines.extend([c.source, 0]);
             lines.extend(c.from.to_le_bytes());
         }
+        let r = (self.last as u16).to_le_bytes();
         let b = self.block();
         b[0] = 3;
         b[2] = changes.len() as u8;
@@ -109,6 +111,12 @@ impl Rng {
     pub fn bytes(&mut self, n: usize) -> Vec<u8> {
         (0..n).map(|_| self.next() as u8).collect()
     }
+
+    /// The bytes of an ordinary sheet, 100 to 480.
+    pub fn sheet(&mut self) -> Vec<u8> {
+        let n = 100 + self.below(381);
+        self.bytes(n)
+    }
 }
 
 /// Ordinary content: sheets of 100 to 480 bytes, commits of one to three changes; with at least four blocks left.
@@ -118,15 +126,34 @@ pub fn ordinary(blocks: usize) -> Vec<u8> {
 
 /// The same, with at least `room` blocks left.
 pub fn with_room(blocks: usize, room: usize) -> Vec<u8> {
+    history(blocks, room).store
+}
+
+/// The same, with the longest tail: 32 contents of the next revision, and a block with a wrong check.
+pub fn with_tail(blocks: usize) -> Vec<u8> {
+    let mut rng = Rng(19);
+    let mut m = history(blocks, 33);
+    for _ in 0..32 {
+        m.content(m.last + 1, &rng.sheet());
+    }
+    m.block().copy_from_slice(&rng.bytes(BLOCK));
+    m.store
+}
+
+/// One commit of one sheet.
+pub fn nearly_empty(blocks: usize) -> Vec<u8> {
+    let mut m = Maker::new(blocks);
+    m.commit(1, 7, &[add(0, &Rng(7).sheet())]);
+    m.store
+}
+
+fn history(blocks: usize, room: usize) -> Maker {
     let mut rng = Rng(7);
     let mut m = Maker::new(blocks);
     let mut present = [false; 32];
     while m.room() >= room + 4 {
         let sheets: Vec<usize> = (0..1 + rng.below(3)).map(|j| (rng.below(10) * 3 + j) % 32).collect();
-        let contents: Vec<Vec<u8>> = sheets.iter().map(|_| {
-            let n = 100 + rng.below(381);
-            rng.bytes(n)
-        }).collect();
+        let contents: Vec<Vec<u8>> = sheets.iter().map(|_| rng.sheet()).collect();
         let mut changes = vec![];
         let mut seen = 0u32;
         for (&s, c) in sheets.iter().zip(&contents) {
@@ -138,7 +165,7 @@ pub fn with_room(blocks: usize, room: usize) -> Vec<u8> {
         }
         m.commit(1, 7, &changes);
     }
-    m.store
+    m
 }
 
 /// Sheets 0 to `sheets` - 1 in the first commit, then one of them in each commit, until `used` blocks are in use or one less; `room` blocks left. The sheet
@@ -146,14 +173,10 @@ pub fn with_room(blocks: usize, room: usize) -> Vec<u8> {
 pub fn steady(used: usize, room: usize, sheets: u8, pick: &mut dyn FnMut(usize) -> u8) -> Maker {
     let mut rng = Rng(7);
     let mut m = Maker::new(used + room);
-    let mut content = || {
-        let n = 100 + rng.below(381);
-        rng.bytes(n)
-    };
-    let first: Vec<Vec<u8>> = (0..sheets).map(|_| content()).collect();
+    let first: Vec<Vec<u8>> = (0..sheets).map(|_| rng.sheet()).collect();
     m.commit(1, 7, &first.iter().enumerate().map(|(i, b)| add(i as u8, b)).collect::<Vec<_>>());
     while m.used + 2 <= used {
-        let bytes = content();
+        let bytes = rng.sheet();
         let sheet = pick(m.last + 1);
         m.commit(1, 7, &[change(sheet, &bytes)]);
     }

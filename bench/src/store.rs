@@ -1,4 +1,4 @@
-//! An independent version of the checks of document 01, section "Blocks", in plain Rust: what the engine's acceptance is held to for speed and for its answers.
+//! An independent version of the checks of document 01, section "Blocks", with W5's tail, in plain Rust: what the engine's acceptance is held to for speed and for its answers.
 //! It shares nothing with the engine.
 
 use crate::sums;
@@ -17,6 +17,11 @@ pub fn seal(b: &mut [u8]) {
 
 fn zero(b: &[u8]) -> bool {
     b.iter().all(|&x| x == 0)
+}
+
+/// The same of a whole block, with no way out before its end: many bytes at a time.
+fn zero_block(b: &[u8]) -> bool {
+    b.iter().fold(0, |all, &x| all | x) == 0
 }
 
 /// The shape of a block by its first byte: named fields in range, everything else zero.
@@ -39,7 +44,7 @@ fn shaped(b: &[u8]) -> bool {
                 })
                 && zero(&b[16 + 8 * m..508])
         }
-        _ => zero(&b[..508]),
+        _ => false,
     }
 }
 
@@ -65,12 +70,17 @@ pub fn open(store: &[u8]) -> Result<Opened, u32> {
     if store.len() % BLOCK != 0 || !(2..=4096).contains(&n) {
         return Err(1);
     }
-    if !sums::all_right(store, sums::fours) {
+    // the last block that isn't all zero, or the label's
+    let end = (1..n).rev().find(|&p| !zero_block(&store[p * BLOCK..(p + 1) * BLOCK])).unwrap_or(0);
+    let right = |from: usize, to: usize| sums::all_right(&store[from * BLOCK..to * BLOCK], sums::fours);
+    let whole = right(end, end + 1);
+    if !right(0, end) || end == 0 && !whole {
         return Err(2);
     }
-    laid_out(store, n).ok_or(3)
+    laid_out(store, end + whole as usize).ok_or(3)
 }
 
+/// The first n blocks, whose checks are right, as a history and the contents of a tail.
 fn laid_out(store: &[u8], n: usize) -> Option<Opened> {
     let block = |p: usize| &store[p * BLOCK..(p + 1) * BLOCK];
     if block(0)[0] != 1 || !shaped(block(0)) {
@@ -80,8 +90,7 @@ fn laid_out(store: &[u8], n: usize) -> Option<Opened> {
     let mut table: Vec<[u16; 32]> = Vec::with_capacity(64.min(n));
     table.push([0; 32]);
     let mut first = 1;
-    let mut p = 1;
-    while p < n {
+    for p in 1..n {
         let b = block(p);
         if !shaped(b) {
             return None;
@@ -97,15 +106,13 @@ fn laid_out(store: &[u8], n: usize) -> Option<Opened> {
                 table.push(row);
                 first = p + 1;
             }
-            0 => break,
             _ => return None,
         }
-        p += 1;
     }
-    if first != p || !store[p * BLOCK..].iter().all(|&x| x == 0) {
+    if n - first > 32 {
         return None;
     }
-    Some(Opened { last: table.len() - 1, used: p })
+    Some(Opened { last: table.len() - 1, used: first })
 }
 
 /// One commit block at p, whose content blocks stand from `first` on: the next row of the table.

@@ -1,5 +1,6 @@
-"""Acceptance in plain Python, made apart from the engine: which of refusals 1 to 6 comes first for two buffers, or 0; and which of 1 to 7 for a replay."""
-from layout import BLOCK, COPY_LEN, commit_block, content, entry_block, entry_of, held, label, sealed, two_at
+"""Acceptance in plain Python, made apart from the engine: which of refusals 1 to 6, and 14 for a commit, comes first for two buffers, or 0; and which of 1 to 7
+for a replay."""
+from layout import BLOCK, COPY_LEN, commit_block, content, entry_block, entry_of, filled_blocks, held, label, sealed, two_at
 from script import records_ok
 from sheets import ADD, CHANGE, COPY, DELETE
 
@@ -52,13 +53,12 @@ def next_tree(blocks, block, trees, contents):
 
 
 def trees_of(blocks):
-    """The tree of every revision, or None if the blocks aren't the layout of a history."""
+    """The tree of every revision, and the number of blocks in the tail; None if the blocks aren't the layout of a history and, maybe, a tail."""
     if blocks[0] != label():
         return None
-    trees, contents = [{}], []
-    for number, b in enumerate(blocks[1:], 1):
-        if b == BLANK:
-            return trees if not contents and all(x == BLANK for x in blocks[number:]) else None
+    trees, contents, number = [{}], [], 1
+    while number < len(blocks) and blocks[number] != BLANK and checked([blocks[number]]):
+        b = blocks[number]
         if b[0] == 2:
             if two_at(b, 2) > 480 or b != content(len(trees), held(b)):
                 return None
@@ -71,18 +71,24 @@ def trees_of(blocks):
             contents = []
         else:
             return None
-    return trees if not contents else None
+        number += 1
+    # W5, the tail: "up to 32 well-formed content blocks that carry the next revision, and after them at most one block with a wrong check", then "zero blocks"
+    junk = int(number < len(blocks) and not checked([blocks[number]]))
+    if len(contents) > 32 or any(b != BLANK for b in blocks[number + junk:]):
+        return None
+    return trees, len(contents) + junk
 
 
 def store_refusal(store):
-    """The first of 1 to 3 that holds, or 0, and the trees of an accepted store."""
+    """The first of 1 to 3 that holds, or 0; the trees of an accepted store, and the number of blocks in its tail."""
     if len(store) % BLOCK or not 2 <= len(store) // BLOCK <= 4096:
-        return 1, None
+        return 1, None, None
     blocks = cut(store)
-    if not checked(blocks):
-        return 2, None
-    trees = trees_of(blocks)
-    return (3, None) if trees is None else (0, trees)
+    last = len(filled_blocks(store)) - 1  # "Refusal 2 skips the last block that isn't all zero, unless it is the label"
+    if not checked(b for n, b in enumerate(blocks) if n == 0 or n != last):
+        return 2, None, None
+    found = trees_of(blocks)
+    return (3, None, None) if found is None else (0, *found)
 
 
 def entry_lawful(block):
@@ -112,15 +118,17 @@ def copy_refusal(copy, trees):
     return 0 if all(fits(i, entry_of(b), trees) for i, b in enumerate(blocks[1:])) else 6
 
 
-def refusal(store, copy=None):
-    """The first of 1 to 6 that holds for a call that takes the store, or the store and the copy; 0 for none."""
-    number, trees = store_refusal(store)
+def refusal(store, copy=None, commits=False):
+    """The first of 1 to 6 that holds for a call that takes the store, or the store and the copy, and for a commit 14, "checked right after 3"; 0 for none."""
+    number, trees, tail = store_refusal(store)
+    if not number and commits and tail:
+        return 14
     return number if number or copy is None else copy_refusal(copy, trees)
 
 
 def replay_refusal(script, store, copies, answers):
     """The first of 1 to 7 that holds for a replay; 0 for none."""
-    number, trees = store_refusal(store)
+    number, trees, _ = store_refusal(store)
     if number:
         return number
     if len(copies) != 4 * COPY_LEN:

@@ -1,9 +1,10 @@
 """The blocks of document 01 in plain Python, made apart from the engine: bytes of a history and of a working copy, and back.
 
 `store_bytes` lays a history out, in the order of W1 (document 02) or in orders of the caller's; `appended` lays one more commit out behind the blocks of a
-store in any order; `history_of` and `entries_of` read buffers that are known to be layouts. Nothing here checks a layout: accept.py does.
+store in any order; `tailed` puts the tail of W5 behind them, `cleared` takes it away; `history_of` and `entries_of` read buffers that are known to be layouts.
+Nothing here checks a layout: accept.py does.
 """
-import functools, itertools
+import functools
 
 from sheets import COPY, DELETE
 
@@ -104,10 +105,29 @@ def store_bytes(blocks, history, order=None, contents=None):
     return filled(blocks, used)
 
 
+def filled_blocks(store):
+    """The blocks up to the last one that isn't all zero."""
+    size = len(store.rstrip(b'\0'))
+    return [bytes(store[k:k + BLOCK]) for k in range(0, size, BLOCK)]
+
+
 def used_blocks(store):
-    """The blocks in use of a store that is known to be a layout."""
-    blocks = (bytes(store[k:k + BLOCK]) for k in range(0, len(store), BLOCK))
-    return list(itertools.takewhile(lambda b: b[0] != 0, blocks))
+    """The blocks in use of a store that is known to be a layout: up to the last commit block, or the label. A tail stands behind them. It has content blocks,
+    and a block with a wrong check."""
+    blocks = filled_blocks(store)
+    while blocks[-1][0] not in (1, 3) or blocks[-1] != sealed(blocks[-1][:508]):
+        blocks.pop()
+    return blocks
+
+
+def cleared(store):
+    """A store that is known to be a layout, without its tail."""
+    return filled(len(store) // BLOCK, used_blocks(store))
+
+
+def tailed(store, tail):
+    """A store that is known to be a layout, with these blocks as its tail."""
+    return filled(len(store) // BLOCK, used_blocks(store) + tail)
 
 
 def held(block):
@@ -123,17 +143,18 @@ def lines_of(block):
 
 
 def history_of(store):
-    """The history that a store is known to lay out, and its used blocks."""
+    """The history that a store is known to lay out, its used blocks, and those of its tail."""
     blocks, history = used_blocks(store), []
     for b in blocks:
         if b[0] == 3:
             changes = {sheet: (action, None if action == DELETE else held(blocks[point]), source) for sheet, action, point, source in lines_of(b)}
             history.append((b[6], int.from_bytes(b[8:12], 'little'), changes))
-    return history, len(blocks)
+    return history, len(blocks), len(filled_blocks(store)) - len(blocks)
 
 
 def appended(store, commit):
-    """A store that is known to be a layout, with one more commit behind its used blocks in the order of W1. What stands there already stays, whatever its order."""
+    """A store that is known to be a layout without a tail, with one more commit behind its used blocks in the order of W1. What stands there already stays, whatever
+    its order."""
     used, trees = used_blocks(store), [{}]
     for b in used:
         if b[0] == 3:

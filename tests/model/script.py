@@ -1,7 +1,7 @@
 """Scripts and answers in bytes, in plain Python, made apart from the engine: the records of docs/LAYOUT.md."""
 RECORD = 512
 MOST = 496  # bytes that a call of a script can take
-KINDS = ('add', 'edit', 'delete', 'copy', 'move', 'commit', 'update', 'revert', 'read', 'show', 'status', 'log')
+KINDS = ('add', 'edit', 'delete', 'copy', 'move', 'commit', 'update', 'revert', 'read', 'show', 'status', 'log', 'clear')
 
 
 def four(*numbers):
@@ -41,4 +41,4 @@ def answer_record(answer):
 
 def records_ok(script):
     records = [script[k:k + RECORD] for k in range(0, len(script), RECORD)]
-    return all(len(r) == RECORD and 1 <= r[0] <= 12 and 1 <= r[1] <= 4 and int.from_bytes(r[2:4], 'little') <= MOST for r in records)
+    return all(len(r) == RECORD and 1 <= r[0] <= len(KINDS) and 1 <= r[1] <= 4 and int.from_bytes(r[2:4], 'little') <= MOST for r in records)

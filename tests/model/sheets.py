@@ -1,5 +1,6 @@
-"""A model of document 01, with the requests of document 02 up to W3, in plain data, made apart from the engine: no buffers, no blocks, nothing shared with the
-crates. W1 moves nothing here: it is the order of the blocks, in layout.py. W2 moves update. W3 moves what read, show and status answer.
+"""A model of document 01, with the requests of document 02 up to W5, in plain data, made apart from the engine: no buffers, no blocks, nothing shared with the
+crates. W1 moves nothing here: it is the order of the blocks, in layout.py. W2 moves update. W3 moves what read, show and status answer. W4 moves no answer. W5
+adds the number of the tail's blocks, which commit minds and clear makes 0; no call makes a tail, so it is 0 unless the store was found with one.
 
 A tree is a dict from sheet to bytes. A change is (action, bytes, source); a commit is (seat, stamp, {sheet: change}).
 An entry is ('empty',), ('normal', base, bytes), ('added', bytes), ('deleted', base) or ('copied', (sheet, revision), bytes).
@@ -15,6 +16,7 @@ class Machine:
     def __init__(self, blocks):
         self.blocks = blocks
         self.used = 1
+        self.tail = 0
         self.history = []
         self.seats = {seat: [EMPTY] * 32 for seat in (1, 2, 3, 4)}
 
@@ -147,6 +149,8 @@ class Machine:
         return answer
 
     def do_commit(self, entries, seat, stamp, mask):
+        if self.tail:  # W5: "14, commit on a store that has a tail, checked right after 3"
+            return ('no', 14)
         if mask == 0:
             return ('no', 7)
         chosen = [i for i in range(32) if mask >> i & 1 and self.pending(i, entries[i])]
@@ -180,6 +184,11 @@ class Machine:
         for i in range(32):
             if mask >> i & 1:
                 entries[i] = self.reverted(i, entries[i])
+        return ('done',)
+
+    def do_clear(self, entries, seat):
+        """W5: "A new call on the store alone clears the tail .. without a tail it changes nothing". Whose seat it is doesn't matter."""
+        self.tail = 0
         return ('done',)
 
     def do_read(self, entries, seat, revision, sheet):

@@ -4,7 +4,7 @@ use crate::ffi;
 use std::error::Error;
 use std::fmt;
 
-/// Why a call was refused: the lines of document 01's "When the engine says no", with their numbers.
+/// Why a call was refused: the lines of document 01's "When the engine says no", and 14 of document 02, with their numbers.
 #[derive(Clone, Copy, Debug, PartialEq, Eq, Hash)]
 #[repr(u32)]
 pub enum Refusal {
@@ -34,9 +34,11 @@ pub enum Refusal {
     Conflict = 12,
     /// The commit does not fit in the store's unused blocks.
     NoRoom = 13,
+    /// The store to commit to has a tail. This is checked right after [`StoreLayout`](Refusal::StoreLayout).
+    Tail = 14,
 }
 
-const REFUSALS: [Refusal; 13] = [
+const REFUSALS: [Refusal; 14] = [
     Refusal::StoreLength,
     Refusal::StoreCheck,
     Refusal::StoreLayout,
@@ -50,10 +52,11 @@ const REFUSALS: [Refusal; 13] = [
     Refusal::OutOfDate,
     Refusal::Conflict,
     Refusal::NoRoom,
+    Refusal::Tail,
 ];
 
 impl Refusal {
-    /// The document's number, 1 to 13.
+    /// The documents' number, 1 to 14.
     pub fn number(self) -> u32 {
         self as u32
     }
@@ -75,6 +78,7 @@ impl fmt::Display for Refusal {
             Refusal::OutOfDate => "a chosen entry is out of date",
             Refusal::Conflict => "a chosen entry is a conflict",
             Refusal::NoRoom => "the store has no room",
+            Refusal::Tail => "the store has a tail",
         };
         write!(f, "refusal {}: {why}", self.number())
     }

@@ -105,9 +105,37 @@ pub fn move_sheet(store: &[u8], copy: &mut [u8], from: u32, to: u32) -> Result<(
 }
 
 /// The pending entries that the mask chooses become the next revision, which is the answer. The blocks in use stay as they are. Two stores of one size
-/// that began fresh are equal byte by byte exactly if their histories are the same.
+/// that began fresh and have no tail are equal byte by byte exactly if their histories are the same. A store that has a tail is refused with
+/// [`Refusal::Tail`]: see [`clear`].
 pub fn commit(store: &mut [u8], copy: &mut [u8], stamp: u32, mask: u32) -> Result<u32, Refusal> {
     value(unsafe { ffi::sheets_commit(store.as_mut_ptr(), store.len(), copy.as_mut_ptr(), copy.len(), stamp, mask) })
+}
+
+/// Clears the tail of a store. Where contact is lost within a commit, the store ends in a tail: up to 32 content blocks of the next revision and at most one
+/// block with a wrong check. Every call but [`commit`] works then, as if the tail were zero blocks. Clear writes zero blocks there, from the highest block
+/// down; without a tail it changes nothing.
+///
+/// ```
+/// use sheetstore::{self as sheets, Refusal, ALL, BLOCK, COPY_LEN};
+///
+/// let mut store = vec![0; 32 * BLOCK];
+/// let mut copy = vec![0; COPY_LEN];
+/// sheets::create_store(&mut store)?;
+/// sheets::create_copy(&mut copy, 2)?;
+/// sheets::add(&store, &mut copy, 5, b"stop after 30 s")?;
+/// sheets::commit(&mut store, &mut copy, 7, ALL)?;
+///
+/// store[3 * BLOCK..3 * BLOCK + 2].copy_from_slice(&[2, 7]); // a block that was half written behind revision 1
+/// assert_eq!(sheets::read(&store, 1, 5)?.bytes, b"stop after 30 s");
+/// sheets::edit(&store, &mut copy, 5, b"stop after 20 s")?;
+/// assert_eq!(sheets::commit(&mut store, &mut copy, 8, ALL), Err(Refusal::Tail));
+///
+/// sheets::clear(&mut store)?;
+/// assert_eq!(sheets::commit(&mut store, &mut copy, 8, ALL), Ok(2));
+/// # Ok::<(), Refusal>(())
+/// ```
+pub fn clear(store: &mut [u8]) -> Result<(), Refusal> {
+    done(unsafe { ffi::sheets_clear(store.as_mut_ptr(), store.len()) })
 }
 
 /// The entries that the mask chooses come to a revision, unless one of them is a conflict. One whose own bytes are the ones that its sheet has there

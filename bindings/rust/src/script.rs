@@ -92,6 +92,8 @@ pub enum Call<'a> {
         /// The sheet.
         sheet: u32,
     },
+    /// [`clear`](crate::clear)
+    Clear,
 }
 
 /// A list of calls by seats 1 to 4, for [`replay`](crate::replay).
@@ -107,7 +109,7 @@ impl Script {
     }
 
     /// Adds a call by a seat at the end. A seat that is not 1 to 4, and more than [`MAX_BYTES`] bytes, are refused with [`Refusal::Range`].
-    /// Read and log need no seat, and any of the four will do.
+    /// Read, log and clear need no seat, and any of the four will do.
     pub fn push(&mut self, seat: u32, call: Call<'_>) -> Result<(), Refusal> {
         let (kind, first, second, bytes): (u8, u32, u32, &[u8]) = match call {
             Call::Add { sheet, bytes } => (1, sheet, 0, bytes),
@@ -122,6 +124,7 @@ impl Script {
             Call::Show { sheet } => (10, sheet, 0, &[]),
             Call::Status { sheet } => (11, sheet, 0, &[]),
             Call::Log { revision, sheet } => (12, revision, sheet, &[]),
+            Call::Clear => (13, 0, 0, &[]),
         };
         if !(1..=4).contains(&seat) || bytes.len() > MAX_BYTES {
             return Err(Refusal::Range);

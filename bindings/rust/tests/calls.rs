@@ -145,6 +145,50 @@ fn the_same_edit_twice_agrees() {
     assert_eq!(sheets::commit(&mut store, &mut one, 0, ALL), Err(Refusal::NothingPending));
 }
 
+/// A content block of revision 2 and a block with a wrong check, behind revision 1.
+fn with_tail(store: &[u8]) -> Vec<u8> {
+    let mut tailed = store.to_vec();
+    tailed[3 * BLOCK..3 * BLOCK + 17].copy_from_slice(&[2, 0, 1, 0, 2, 0, 0, 0, 0, 0, 0, 0, 0, 0, 0, 0, 0x42]);
+    seal(&mut tailed[3 * BLOCK..4 * BLOCK]);
+    tailed[4 * BLOCK..5 * BLOCK].fill(0xff);
+    tailed
+}
+
+#[test]
+fn every_call_but_commit_works_beside_a_tail() {
+    let (bare, mut copy) = case_input(8);
+    let store = with_tail(&bare);
+    assert_eq!(sheets::read(&store, 1, 5), Ok(Sheet { bytes: b"A", revision: 1 }));
+    assert_eq!(sheets::read(&store, 2, 5), Err(Refusal::Range));
+    assert_eq!(sheets::log(&store, 1, 5), sheets::log(&bare, 1, 5));
+    assert_eq!(sheets::status(&store, &copy, 5), Ok(Standing { status: Status::UpToDate, revision: Some(1) }));
+    sheets::edit(&store, &mut copy, 5, b"B").unwrap();
+    sheets::add(&store, &mut copy, 6, b"C").unwrap();
+    sheets::delete(&store, &mut copy, 6).unwrap();
+    sheets::copy_sheet(&store, &mut copy, 5, 7).unwrap();
+    sheets::move_sheet(&store, &mut copy, 7, 8).unwrap();
+    sheets::update(&store, &mut copy, ALL, 1).unwrap();
+    assert_eq!(sheets::show(&store, &copy, 8), Ok(Shown::Own(b"B")));
+    sheets::revert(&store, &mut copy, ALL).unwrap();
+    assert_eq!(sheets::show(&store, &copy, 5), Ok(Shown::Own(b"A")));
+}
+
+#[test]
+fn clear_leaves_the_store_without_its_tail() {
+    let (bare, mut copy) = case_input(8);
+    let mut store = with_tail(&bare);
+    sheets::edit(&store, &mut copy, 5, b"B").unwrap();
+    assert_eq!(sheets::commit(&mut store, &mut copy, 8, ALL), Err(Refusal::Tail));
+    assert_eq!(sheets::commit(&mut store, &mut [], 8, ALL), Err(Refusal::Tail));
+    assert!(store == with_tail(&bare));
+    for _ in 0..2 {
+        assert_eq!(sheets::clear(&mut store), Ok(()));
+        assert!(store == bare);
+    }
+    assert_eq!(sheets::commit(&mut store, &mut copy, 8, ALL), Ok(2));
+    assert_eq!(sheets::read(&store, 2, 5), Ok(Sheet { bytes: b"B", revision: 2 }));
+}
+
 /// A call on copies of a store and a working copy.
 type Call<'a> = &'a dyn Fn(&mut Vec<u8>, &mut Vec<u8>) -> Result<(), Refusal>;
 
@@ -198,9 +242,26 @@ fn every_refusal_has_its_number_and_changes_nothing() {
         sheets::edit(s, &mut edited, 5, b"B")?;
         commit(s, &mut edited)
     });
+    refused(14, &|s, c| {
+        let mut tailed = s.clone();
+        tailed[3 * BLOCK] = 1;
+        commit(&mut tailed, c)
+    });
+    refused(1, &|s, _| sheets::clear(&mut s[1..]));
+    refused(2, &|s, _| {
+        let mut damaged = s.clone();
+        damaged[600] ^= 1;
+        sheets::clear(&mut damaged)
+    });
+    refused(3, &|s, _| {
+        let mut damaged = s.clone();
+        damaged.copy_within(..BLOCK, 3 * BLOCK);
+        sheets::clear(&mut damaged)
+    });
 }
 
 #[test]
 fn a_refusal_says_its_number() {
     assert_eq!(Refusal::NoRoom.to_string(), "refusal 13: the store has no room");
+    assert_eq!(Refusal::Tail.to_string(), "refusal 14: the store has a tail");
 }

@@ -37,6 +37,7 @@ fn alone<'a>(store: &'a mut [u8], copies: &'a mut [u8], seat: u32, call: Call) -
         Call::Show { sheet } => sheets::show(store, copy, sheet).map(Reply::Show),
         Call::Status { sheet } => sheets::status(store, copy, sheet).map(Reply::Status),
         Call::Log { revision, sheet } => sheets::log(store, revision, sheet).map(Reply::Log),
+        Call::Clear => sheets::clear(store).map(|_| Reply::Done),
     }
 }
 
@@ -60,6 +61,7 @@ fn every_kind() -> Vec<(u32, Call<'static>)> {
         (4, Call::Delete { sheet: 31 }),
         (4, Call::Add { sheet: 0, bytes: &[1; MAX_BYTES] }),
         (3, Call::Edit { sheet: 0, bytes: b"" }),
+        (3, Call::Clear),
     ]
 }
 
@@ -85,6 +87,7 @@ fn a_script_is_its_calls_one_by_one() {
     assert_eq!(said[13], Ok(Reply::Status(Standing { status: Status::NeedsPatch, revision: Some(2) })));
     assert_eq!(said[15], Err(Refusal::Range));
     assert_eq!(said[16], Err(Refusal::Missing));
+    assert_eq!(said[17], Ok(Reply::Done));
     assert_eq!(answers[script.len() * RECORD_LEN..], [0x5a; 3]);
 }
 
@@ -92,8 +95,23 @@ fn a_script_is_its_calls_one_by_one() {
 fn the_answers_know_their_number() {
     let (script, (mut store, mut copies)) = (script_of(&every_kind()), fresh(16));
     let mut answers = vec![0; script.len() * RECORD_LEN];
-    assert_eq!(sheets::replay(&script, &mut store, &mut copies, &mut answers).unwrap().len(), 17);
+    assert_eq!(sheets::replay(&script, &mut store, &mut copies, &mut answers).unwrap().len(), 18);
     assert_eq!(sheets::replay(&Script::new(), &mut store, &mut copies, &mut []).unwrap().len(), 0);
+}
+
+#[test]
+fn a_script_begins_on_a_tail_and_clears_it() {
+    let (mut store, mut copies) = fresh(16);
+    store[BLOCK..2 * BLOCK].fill(0xff);
+    let commit = (2, Call::Commit { stamp: 7, mask: ALL });
+    let script = script_of(&[(2, Call::Add { sheet: 5, bytes: b"A" }), commit, (1, Call::Clear), commit, (1, Call::Clear)]);
+    let mut answers = vec![0x5a; script.len() * RECORD_LEN];
+    let said: Vec<_> = sheets::replay(&script, &mut store, &mut copies, &mut answers).unwrap().collect();
+    assert_eq!(said, [Ok(Reply::Done), Err(Refusal::Tail), Ok(Reply::Done), Ok(Reply::Revision(1)), Ok(Reply::Done)]);
+    let (mut other, mut copy) = fresh(16);
+    sheets::add(&other, &mut copy[COPY_LEN..2 * COPY_LEN], 5, b"A").unwrap();
+    sheets::commit(&mut other, &mut copy[COPY_LEN..2 * COPY_LEN], 7, ALL).unwrap();
+    assert!(store == other && copies == copy);
 }
 
 #[test]
@@ -102,6 +120,7 @@ fn push_refuses_what_a_record_cannot_hold() {
     assert_eq!(script.push(0, Call::Show { sheet: 1 }), Err(Refusal::Range));
     assert_eq!(script.push(5, Call::Show { sheet: 1 }), Err(Refusal::Range));
     assert_eq!(script.push(257, Call::Show { sheet: 1 }), Err(Refusal::Range));
+    assert_eq!(script.push(0, Call::Clear), Err(Refusal::Range));
     assert_eq!(script.push(1, Call::Add { sheet: 1, bytes: &[0; MAX_BYTES + 1] }), Err(Refusal::Range));
     assert!(script.is_empty());
     assert_eq!(script.push(1, Call::Add { sheet: 1, bytes: &[0; MAX_BYTES] }), Ok(()));
@@ -122,7 +141,7 @@ fn a_refused_script_changes_nothing() {
         assert!((s, c, a) == before, "refusal {number} changed a buffer");
     };
     refused(1, &|s, _, _| s.truncate(BLOCK));
-    refused(2, &|s, _, _| s[600] = 1);
+    refused(2, &|s, _, _| s[5] = 1);
     refused(3, &|s, _, _| s.copy_within(0..BLOCK, BLOCK));
     refused(4, &|_, c, _| c.truncate(COPY_LEN));
     refused(5, &|_, c, _| c[3 * COPY_LEN] = 0);

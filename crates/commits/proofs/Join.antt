@@ -3,7 +3,7 @@
 use Prim.Native.Nat.{_*_, _+_, _/_, _<_, _≤_, suc, ℕ}
 use mathlib.Core.Bool.{Bool, _&&_, _||_, cond, false, not, true}
 use mathlib.Core.List.{List, [], _++_, _∷_, map}
-use mathlib.Core.Path.{_∙_, _≡_, ap, ap₂, refl, sym}
+use mathlib.Core.Path.{_∙_, _≡_, ap, ap₂, refl, subst, sym}
 use native.Mathlib.Nat.{add-zero, zero-add}
 use native.Mathlib.Omega.{arith}
 use borrow.Author.Tests.{eq-eqb, le-ltb, lt-ltb, ne-eqb}
@@ -22,13 +22,15 @@ use Rattle.model.specs.Pass.{tablesOf}
 use Rattle.model.specs.Refusals.{noRoom, nothingChosen}
 use Rattle.model.specs.Rows.{rows, some-row, total}
 use Rattle.model.specs.Shows.{Seen}
-use Rattle.model.specs.Store.{blanks, blockCount, front, storeBlocks, storeHistory, usedOf}
+use Rattle.model.specs.Store.{bareOf, blanks, blockCount, front, storeBlocks, storeHistory, usedOf}
+use Rattle.model.specs.Tail.{Tailed}
 use Rattle.model.specs.WorkCopy.{entriesOf, seatOf}
 use Rattle.model.specs.Writing.{Plan, linesFor, newContents, planOf, skip}
 use Rattle.laws.proofs.Accepted.{accepted-kept, accepted-seen}
 use Rattle.laws.proofs.Grows.{length-contents}
 use Rattle.laws.proofs.Invariant.{KeptSide}
 use Rattle.laws.proofs.Rows.{cond-any, length-rows, rows-any}
+use Rattle.laws.proofs.Store.{bare-held, tailed-none, taken-holds, taken-tailed}
 use Rattle.laws.proofs.Trees.{used-low}
 use Rattle.laws.proofs.WorkCopy.{holds-copy}
 use Rattle.laws.proofs.Writer.{freshes}
@@ -119,8 +121,14 @@ module _ (store copy : Bytes) (used revision seat mask : ℕ) (changed places : 
   kept : KeptSide d
   kept = accepted-kept store copy (Q .taken)
 
-  laid : Blocks (blockCount store) store h bs
-  laid = holds-blocks (blockCount store) store h (seen .stored .holds)
+  laid : Blocks (blockCount store) (bareOf store) h bs
+  laid = holds-blocks (blockCount store) (bareOf store) h (taken-holds store (Q .taken .storeTaken))
+
+  -- without a tail the store is bare as it is
+  bare : bareOf store ≡ store
+  bare =
+      let X : Tailed (blockCount store) store h (usedOf store) 0 = subst (Tailed (blockCount store) store h (usedOf store)) (Q .untailed) (taken-tailed store (Q .taken .storeTaken)) in
+      bare-held (blockCount store) store h (usedOf store) 0 X ∙ tailed-none (blockCount store) store h (usedOf store) X
 
   few : usedOf store ≤ 4_096
   few = omega (arith, kept .room, seen .many)
@@ -229,6 +237,6 @@ module _ (store copy : Bytes) (used revision seat mask : ℕ) (changed places : 
           length-contents new (map (planOf look (usedOf store) 0 tables) new) (length-map new (planOf look (usedOf store) 0 tables)) ∙ blocks-count in
           let e : store′ ≡ storeWith store (c ∷ []) =
           W .bytes
-          ∙ (λ x. written (512 * Q .uses x) (joined fieldsOf (commitBlocks (sheetIn copy) (Q .uses x) (Q .next x) (Q .by x) stamp (lines-are x))) (sym (laid .bytes) x))
+          ∙ (λ x. written (512 * Q .uses x) (joined fieldsOf (commitBlocks (sheetIn copy) (Q .uses x) (Q .next x) (Q .by x) stamp (lines-are x))) (sym (laid .bytes ∙ bare) x))
           ∙ written-commit bs h (laid .lays) c (sheetIn copy) carried (omega (arith, all, k, after-is)) in
           record { says = rw (something ne, roomy g) (ap Done n); bytes = rw (something ne, roomy g) e }

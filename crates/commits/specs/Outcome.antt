@@ -12,7 +12,7 @@ use Rattle.model.specs.History.{Bytes, isBytes, last, sheet}
 use Rattle.model.specs.Machine.{Side, blocksFor, chosen, commitChanges, entry, newCommit}
 use Rattle.model.specs.Refusals.{noRoom, nothingChosen}
 use Rattle.model.specs.Shows.{Accepted}
-use Rattle.model.specs.Store.{blockUsed, storeHistory, usedOf}
+use Rattle.model.specs.Store.{blockUsed, storeHistory, tailOf, usedOf}
 use Rattle.model.specs.WorkCopy.{seatOf}
 use Rattle.commits.specs.declared.Outcome.{Outcome}
 use Rattle.commits.specs.declared.Outcome.the-variants.{Done, NoRoom, Nothing}
@@ -32,9 +32,10 @@ pub record RightFlags (store copy : Bytes) (mask : ℕ) (changed places : List �
   pub spots : length places ≡ 32
   pub each : (i : ℕ) → i < 32 → chosen mask i ≡ true → RightAt store i (entry (sideIn store copy) i) (getD changed i 0) (getD places i 0)
 
--- what is asked: buffers that are accepted, the numbers that they state, and flags that are right
+-- what is asked: buffers that are accepted, a store without a tail, the numbers that they state, and flags that are right
 pub record Asked (store copy : Bytes) (used revision seat mask : ℕ) (changed places : List ℕ) : Type 0 where
   pub taken : Accepted store copy
+  pub untailed : tailOf store ≡ 0
   pub uses : used ≡ usedOf store
   pub next : revision ≡ suc (last (storeHistory store))
   pub by : seat ≡ seatOf copy

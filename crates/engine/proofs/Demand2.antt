@@ -1,5 +1,5 @@
 -- Demand 2 for the code: "A store is accepted exactly when its blocks are the layout of some history, and reading back what a history was laid out as gives that
--- history." What whoever calls `store::open`, `read` and `log` learns is taken from each function's own contract (`Learnt`), of which no text is repeated here, and
+-- history." What whoever calls `store::open`, `tails::count`, `read` and `log` learns is taken from each function's own contract (`Learnt`), of which no text is repeated here, and
 -- that the code meets the contract (`met`) stands in the same record.
 -- Assumes nothing.
 use Prim.Native.Nat.{_≤_, ℕ}
@@ -7,7 +7,7 @@ use mathlib.Core.Bool.{_||_, false, true}
 use mathlib.Core.List.{[]}
 use mathlib.Core.Logic.{_↔_}
 use mathlib.Core.Option.{some}
-use mathlib.Core.Path.{_∙_, _≡_, ap, refl, subst, sym}
+use mathlib.Core.Path.{_∙_, _≡_, ap, subst, sym}
 use native.Mathlib.Omega.{arith}
 use borrow.Author.Tests.{le-ltb}
 use denote.Ref.{RefT, now}
@@ -18,12 +18,13 @@ use Rattle.model.specs.Demand2.{LaidStore}
 use Rattle.model.specs.History.{Bytes, History, commitAt, last, namer, present, sheet}
 use Rattle.model.specs.Machine.{logOf}
 use Rattle.model.specs.Refusals.{noSheet}
-use Rattle.model.specs.Store.{Holds, blockCount, blockUsed, storeHistory, usedOf}
+use Rattle.model.specs.Store.{blockCount, blockUsed, storeHistory, tailOf, usedOf}
+use Rattle.model.specs.Tail.{Tailed}
 use Rattle.model.specs.Types.{answerOf}
 use Rattle.model.specs.declared.Answer.{Answer}
 use Rattle.laws.proofs.Demand2.{demand-two}
 use Rattle.laws.proofs.Places.{heard-block}
-use Rattle.laws.proofs.Store.{taken-holds}
+use Rattle.laws.proofs.Store.{taken-tailed}
 use Rattle.inner.proofs.Looking.{beyond-last, log-there, read-found}
 use Rattle.search.proofs.Finding.{block-lacks, open-asked}
 use Rattle.store.proofs.Opening.{accepted-open, open-accepted}
@@ -35,6 +36,9 @@ use contract.Lifetimes.{Lfts}
 use Rattle.store.proofs.open.Met as open-met
 use Rattle.store.proofs.open.Reads as open-reads
 use Rattle.store.proofs.open.Statement as open-statement
+use Rattle.tails.proofs.count.Met as count-met
+use Rattle.tails.proofs.count.Reads as count-reads
+use Rattle.tails.proofs.count.Statement as count-statement
 use Rattle.engine.proofs.log.Met as log-met
 use Rattle.engine.proofs.log.Reads as log-reads
 use Rattle.engine.proofs.log.Statement as log-statement
@@ -46,20 +50,26 @@ use Rattle.engine.proofs.read.Statement as read-statement
 
 -- what `open` answers on these bytes
 pub record Opens (store : Bytes) (r : Opened) : Type 0 where
-  -- it is `Open` exactly where they are the layout of some history
+  -- it is `Open` exactly where they are the layout of some history, with a tail or without
   pub accepted : ((t : Header) × (r ≡ Open t)) ↔ ((h : History) × LaidStore store h)
   -- with that history's length as the last revision
   pub length : (t : Header) (h : History) → r ≡ Open t → LaidStore store h → t .last ≡ last h
+  -- and U is the number of the blocks before its tail
+  pub uses : (t : Header) (h : History) → r ≡ Open t → (L : LaidStore store h) → t .used ≡ L .used
   -- and the history that is read back is that history
   pub read-back : (h : History) → LaidStore store h → storeHistory store ≡ h
 
 pub record CodeDemand2 : Type 2 where
   pub open-meets : (M : Type 1) → open-statement.statement M
+  pub count-meets : (M : Type 1) → count-statement.statement M
   pub read-meets : (M : Type 1) → read-statement.statement M
   pub log-meets : (M : Type 1) → log-statement.statement M
   -- `open` of any bytes
   pub opens : (κs : Lfts 1) (x x′ : RefT Bytes) (r : Opened) → open-reads.Learnt κs (x, tt) r (x′, tt) → Opens (now x) r
-  -- of the layout of a history, `read` hands back the bytes of its trees
+  -- of the layout of a history, `count` answers how many blocks its tail has
+  pub counts : (κs : Lfts 1) (x x′ : RefT Bytes) (used used′ r : ℕ) → count-reads.Learnt κs (x, (used, tt)) r (x′, (used′, tt))
+      → (h : History) (L : LaidStore (now x) h) → r ≡ L .tail
+  -- `read` hands back the bytes of its trees
   pub reads : (κs : Lfts 1) (x x′ r : RefT Bytes) (R i R′ i′ : ℕ) → read-reads.Learnt κs (x, (R, (i, tt))) r (x′, (R′, (i′, tt)))
       → (h : History) → LaidStore (now x) h → R ≤ last h → i ≤ 31 → (b : Bytes) → sheet h R i ≡ some b → now r ≡ b
   -- and `log` tells of its commits
@@ -79,15 +89,16 @@ opens-as store r e =
         λ p. D .store-accepted .0 (open-accepted store (p .0) (sym e ∙ p .1) .0),
         λ p. (headOf store, e ∙ accepted-open store (D .store-accepted .1 p)),
       );
-      length = λ t h o L. open-accepted store t (sym e ∙ o) .1 ∙ ap last (D .store-read h L);
-      read-back = λ h L. D .store-read h L;
+      length = λ t h o L. open-accepted store t (sym e ∙ o) .1 ∙ ap last (D .store-read h L .0);
+      uses = λ t h o L. open-accepted store t (sym e ∙ o) .2 ∙ D .store-read h L .1;
+      read-back = λ h L. D .store-read h L .0;
     }
 
 -- the layout of a history is open, with that history in it
 laid-open : (store : Bytes) (h : History) → LaidStore store h → (openOf store ≡ Open (headOf store)) × (storeHistory store ≡ h)
 laid-open store h L =
     let D = demand-two store [] in
-    (accepted-open store (D .store-accepted .1 (h, L)), D .store-read h L)
+    (accepted-open store (D .store-accepted .1 (h, L)), D .store-read h L .0)
 
 module _ (store : Bytes) (e : openOf store ≡ Open (headOf store)) (R i : ℕ) (l : R ≤ last (storeHistory store)) (g : i ≤ 31) where
   in-line : (noSheet i || ltb (last (storeHistory store)) R) ≡ false
@@ -97,8 +108,8 @@ module _ (store : Bytes) (e : openOf store ≡ Open (headOf store)) (R i : ℕ) 
   log-tells one = sym (log-there store R i (headOf store) e in-line (λ z. omega arith))
 
   module _ (b : Bytes) (s : sheet (storeHistory store) R i ≡ some b) where
-    held : Holds (blockCount store) store (storeHistory store)
-    held = taken-holds store (open-accepted store (headOf store) e .0)
+    held : Tailed (blockCount store) store (storeHistory store) (usedOf store) (tailOf store)
+    held = taken-tailed store (open-accepted store (headOf store) e .0)
 
     used : blockUsed store R i ≡ 0 → ⊥
     used z =
@@ -109,15 +120,17 @@ module _ (store : Bytes) (e : openOf store ≡ Open (headOf store)) (R i : ℕ) 
 
     read-bytes : take (partOf (readPlace store R i) .1) (drop (partOf (readPlace store R i) .0) store) ≡ b
     read-bytes =
-        let heard = heard-block (blockCount store) store [] (storeHistory store) R i (namer (storeHistory store) R i) b refl held l s in
+        let heard = heard-block (blockCount store) store [] (storeHistory store) (usedOf store) (tailOf store) R i (namer (storeHistory store) R i) b held l s in
         ap (λ (q : Place). take (partOf q .1) (drop (partOf q .0) store)) (sym (read-found store R i (headOf store) e in-line used)) ∙ cc heard
 
 pub code-demand-two : CodeDemand2
 code-demand-two = record {
   open-meets = λ M. open-met.met;
+  count-meets = λ M. count-met.met;
   read-meets = λ M. read-met.met;
   log-meets = λ M. log-met.met;
   opens = λ κs x x′ r e. opens-as (now x) r e;
+  counts = λ κs x x′ used used′ r e h L. e ∙ demand-two (now x) [] .store-read h L .2;
   reads = λ κs x x′ r R i R′ i′ e h L l g b s.
       let o = laid-open (now x) h L in
       e .bytes

@@ -1,5 +1,5 @@
--- Demand 3 for the code: any list of add, edit, delete, copy, move, commit, update and revert calls by four seats, refused ones included, from a fresh store of 2 to 4,096 blocks and
--- four fresh copies, each call given the store and its seat's copy as the calls before left them. What whoever calls a function learns is taken from that function's own contract
+-- Demand 3 for the code: any list of add, edit, delete, copy, move, commit, update, revert and clear calls by four seats, refused ones included, from a fresh store of 2 to 4,096
+-- blocks and four fresh copies, each call given the store and its seat's copy as the calls before left them. What whoever calls a function learns is taken from that function's own contract
 -- (`Learnt`), of which no text is repeated here, and that the code meets the contracts (`met`) stands in the same record.
 -- Assumes nothing.
 use Prim.Native.Nat.{_-_, _≤_, ℕ}
@@ -8,10 +8,10 @@ use mathlib.Core.Path.{_∙_, _≡_, ap, ap₂, refl, subst, sym}
 use denote.Ref.{RefT, now}
 use lib.ListN.{length, set, take}
 use lib.Seq.{take-length}
-use Rattle.model.specs.Calls.{Buffers, Out, afterTurn, answersOn, call, freshBuffers, heard, out, readCall, readPlace, runOn}
+use Rattle.model.specs.Calls.{Buffers, Created, Out, afterTurn, answersOn, call, freshBuffers, heard, out, readCall, readPlace, runOn}
 use Rattle.model.specs.Demand3.{Brings, Finds, NothingPending, WholeList, copyIn}
 use Rattle.model.specs.History.{Bytes, History, namer, sheet}
-use Rattle.model.specs.Machine.{Add, Call, Commits, Copy, Delete, Edit, Move, Revert, Update, asBytes, fresh}
+use Rattle.model.specs.Machine.{Add, Call, Clears, Commits, Copy, Delete, Edit, Move, Revert, Update, asBytes, fresh}
 use Rattle.model.specs.Run.{AllValid, Turn, accepted, answers, run}
 use Rattle.model.specs.Shows.{Shows}
 use Rattle.model.specs.Types.{answerOf, placeOf}
@@ -43,6 +43,9 @@ use Rattle.engine.proofs.update.Statement as update-statement
 use Rattle.engine.proofs.revert.Met as revert-met
 use Rattle.engine.proofs.revert.Reads as revert-reads
 use Rattle.engine.proofs.revert.Statement as revert-statement
+use Rattle.engine.proofs.clear.Met as clear-met
+use Rattle.engine.proofs.clear.Reads as clear-reads
+use Rattle.engine.proofs.clear.Statement as clear-statement
 use Rattle.engine.proofs.read_place.Met as read-met
 use Rattle.engine.proofs.read_place.Reads as read-reads
 use Rattle.engine.proofs.read_place.Statement as read-statement
@@ -67,6 +70,7 @@ pub data Made : Bytes → Bytes → Call → TheAnswer → Bytes → Bytes → T
       → update-reads.Learnt κs (x, (y, (mask, (R, tt)))) r (x′, (y′, (mask, (R, tt)))) → Made (now x) (now y) (Update mask R) r (now x) (now y′)
   reverts : {mask : ℕ} {r : TheAnswer} (κs : Lfts 2) (x y x′ y′ : RefT Bytes)
       → revert-reads.Learnt κs (x, (y, (mask, tt))) r (x′, (y′, (mask, tt))) → Made (now x) (now y) (Revert mask) r (now x) (now y′)
+  clears : {r : TheAnswer} {copy : Bytes} (κs : Lfts 1) (x x′ : RefT Bytes) → clear-reads.Learnt κs (x, tt) r (x′, tt) → Made (now x) copy Clears r (now x′) copy
 
 -- a list of calls, their answers, and the buffers afterwards. Every beginning of a trace is a trace, so what is said of a trace is said after every call
 pub data Trace : Buffers → List Turn → List TheAnswer → Buffers → Type 0 where
@@ -104,6 +108,7 @@ pub record CodeDemand3 : Type 2 where
   pub commit-meets : (M : Type 1) → commit-statement.statement M
   pub update-meets : (M : Type 1) → update-statement.statement M
   pub revert-meets : (M : Type 1) → revert-statement.statement M
+  pub clear-meets : (M : Type 1) → clear-statement.statement M
   pub read-meets : (M : Type 1) → read-statement.statement M
   pub whole : (N : ℕ) (ts : List Turn) → 2 ≤ N → N ≤ 4_096 → AllValid ts → (rs : List TheAnswer) (b : Buffers) → Trace (freshBuffers N) ts rs b
       → CodeWholeList N ts rs b (accepted (fresh N) ts)
@@ -120,6 +125,7 @@ made-is (moves κs x y x′ y′ e) = e
 made-is (commits κs x y x′ y′ e) = e
 made-is (updates κs x y x′ y′ e) = e
 made-is (reverts κs x y x′ y′ e) = e
+made-is (clears {copy = copy} κs x x′ e) = ap (λ (o : Created). out (o .says) (o .buffer) copy) e
 
 -- a trace is the calls on buffers
 pub traced : {b b′ : Buffers} {ts : List Turn} {rs : List TheAnswer} → Trace b ts rs b′ → (map answerOf rs ≡ answersOn b ts) × (b′ ≡ runOn b ts)
@@ -150,6 +156,7 @@ code-demand-three = record {
   commit-meets = λ M. commit-met.met;
   update-meets = λ M. update-met.met;
   revert-meets = λ M. revert-met.met;
+  clear-meets = λ M. clear-met.met;
   read-meets = λ M. read-met.met;
   whole = λ N ts lo hi v rs b T.
       let q = traced T in

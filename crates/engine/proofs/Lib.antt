@@ -7,3 +7,4 @@ pub mod Demand1
 pub mod Ordered
 pub mod SameEdit
 pub mod SetBy
+pub mod HalfWritten

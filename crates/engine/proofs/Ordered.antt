@@ -14,6 +14,7 @@ use Rattle.model.specs.Order.{continued, storeBytes}
 use Rattle.model.specs.Ordered.{Appends}
 use Rattle.model.specs.Run.{AllValid, Turn, accepted}
 use Rattle.model.specs.Shows.{AllAccepted, stateIn}
+use Rattle.model.specs.Store.{bareOf}
 use Rattle.model.specs.Types.{answerOf}
 use Rattle.model.specs.declared.Answer.{Answer as TheAnswer}
 use Rattle.laws.proofs.Ordered.{ordered}
@@ -38,9 +39,9 @@ pub record CodeOrdered : Type 2 where
   -- "Stores already written in another order are still accepted and read.": `open` accepts every layout of a history, which leaves the order free, and `read_place` finds its sheets
   pub opened : (κs : Lfts 1) (x x′ : RefT Bytes) (r : Opened) → open-reads.Learnt κs (x, tt) r (x′, tt) → (h : History) → LaidStore (now x) h → (t : Header) × (r ≡ Open t)
   pub found : (store : Bytes) (h : History) → LaidStore store h → (R i : ℕ) → R ≤ last h → i ≤ 31 → Read store h R i
-  -- and calls go on with them: behind the blocks in use, which stay, the commits that were accepted, in this order
+  -- and calls go on with them: behind the blocks in use, which stay, the commits that were accepted, in this order; a tail that is left counts as zero blocks
   pub lists : {b b′ : Buffers} {ts : List Turn} {rs : List TheAnswer} → AllAccepted b → AllValid ts → Trace b ts rs b′
-      → b′ .store ≡ continued (b .store) (accepted (stateIn b) ts)
+      → bareOf (b′ .store) ≡ continued (b .store) (accepted (stateIn b) ts)
   -- from a fresh store of N blocks and four fresh copies: the bytes follow from N and the accepted commits alone
   pub bytes : (N : ℕ) → 2 ≤ N → N ≤ 4_096 → {b : Buffers} {ts : List Turn} {rs : List TheAnswer} → AllValid ts → Trace (freshBuffers N) ts rs b
       → b .store ≡ storeBytes N (accepted (fresh N) ts)
@@ -66,7 +67,7 @@ code-ordered = record {
       (ordered .commits store copy stamp mask R small (sym (ap (λ (o : Out). o .says) e) ∙ q));
   opened = λ κs x x′ r l h L. code-demand-two .opens κs x x′ r l .accepted .1 (h, L);
   found = λ store h L R i le small. read-is store h R i (ordered .another store h L .found R i le small);
-  lists = λ {b} {b′} {ts} A v T. left T ∙ ordered .lists b ts A v;
+  lists = λ {b} {b′} {ts} A v T. ap bareOf (left T) ∙ ordered .lists b ts A v;
   bytes = λ N lo hi {b} {ts} v T. left T ∙ ordered .bytes N ts lo hi v;
   equal = λ N lo hi {b} {c} {ts} {us} v w T U e. left T ∙ ordered .equal N ts us lo hi v w e ∙ sym (left U);
   back = λ N lo hi {b} {c} {ts} {us} v w T U e. ordered .back N ts us lo hi v w (sym (left T) ∙ e ∙ left U);

@@ -12,7 +12,7 @@ use Rattle.model.specs.History.{Bytes, last, namer}
 use Rattle.model.specs.Machine.{Answer, Commits, Status, Update, chosen, done, refused, status}
 use Rattle.model.specs.SameEdit.{AllAgree, Updates, agrees}
 use Rattle.model.specs.Shows.{Accepted}
-use Rattle.model.specs.Store.{storeHistory}
+use Rattle.model.specs.Store.{storeHistory, tailOf}
 use Rattle.model.specs.Types.{answerOf}
 use Rattle.model.specs.WorkCopy.{entriesOf}
 use Rattle.model.specs.declared.Answer.{Answer as TheAnswer}
@@ -29,8 +29,8 @@ pub record CodeSameEdit : Type 2 where
   -- what `update` answers and leaves, on a store that is accepted and a working copy that fits it
   pub updates : {store copy store′ copy′ : Bytes} {mask R : ℕ} {r : TheAnswer} → Accepted store copy → Made store copy (Update mask R) r store′ copy′
       → Updates (storeHistory store) (entriesOf copy) mask R (out (answerOf r) store′ copy′)
-  -- until then `commit` and `status` answer as before
-  pub stale : {store copy store′ copy′ : Bytes} {stamp mask : ℕ} {r : TheAnswer} → Accepted store copy → Made store copy (Commits stamp mask) r store′ copy′
+  -- until then `commit` and `status` answer as before; on a store that has a tail, commit's 14 comes first
+  pub stale : {store copy store′ copy′ : Bytes} {stamp mask : ℕ} {r : TheAnswer} → Accepted store copy → tailOf store ≡ 0 → Made store copy (Commits stamp mask) r store′ copy′
       → (i : ℕ) → i < 32 → chosen mask i ≡ true → agrees (storeHistory store) (last (storeHistory store)) i (getD (entriesOf copy) i empty) ≡ true → answerOf r ≡ refused 11
   pub needsMerge : {store copy : Bytes} {i : ℕ} {a : Answer} → Accepted store copy → Looked store copy (Status i) a
       → (b : ℕ) (x : Bytes) → i < 32 → getD (entriesOf copy) i empty ≡ normal b x → agrees (storeHistory store) (last (storeHistory store)) i (normal b x) ≡ true
@@ -38,7 +38,7 @@ pub record CodeSameEdit : Type 2 where
   -- "now count as agreeing": the update is done, and a commit of the same sheets on what it left finds nothing pending
   pub settles : {store copy store′ copy′ store″ copy″ : Bytes} {stamp mask R : ℕ} {r q : TheAnswer} → Accepted store copy → Made store copy (Update mask R) r store′ copy′
       → Made store′ copy′ (Commits stamp mask) q store″ copy″ → (mask ≡ 0 → ⊥) → R ≤ last (storeHistory store) → AllAgree (storeHistory store) mask R (entriesOf copy)
-      → (answerOf r ≡ done) × (answerOf q ≡ refused 10)
+      → (answerOf r ≡ done) × (tailOf store ≡ 0 → answerOf q ≡ refused 10)
 
 -- THE PROOF
 
@@ -48,12 +48,12 @@ code-same-edit = record {
   looks-meet = code-demand-one;
   updates = λ {store} {copy} {store′} {copy′} {mask} {R} A m.
       subst (Updates (storeHistory store) (entriesOf copy) mask R) (sym (made-is m)) (same-edit store copy A .updates mask R);
-  stale = λ {store} {copy} {store′} {copy′} {stamp} {mask} A m i g c z. ap (λ (o : Out). o .says) (made-is m) ∙ same-edit store copy A .stale stamp mask i g c z;
+  stale = λ {store} {copy} {store′} {copy′} {stamp} {mask} A t m i g c z. ap (λ (o : Out). o .says) (made-is m) ∙ same-edit store copy A .stale t stamp mask i g c z;
   needsMerge = λ {store} {copy} {i} A l b x g e z. ap (λ (o : Out). o .says) (looked-is l) ∙ same-edit store copy A .needsMerge i b x g e z;
   settles = λ {store} {copy} {store′} {copy′} {store″} {copy″} {stamp} {mask} {R} A m n nz le f.
       let S = same-edit store copy A .settles stamp mask R nz le f in
       let e = made-is m in (
         ap (λ (o : Out). o .says) e ∙ S .0,
-        ap (λ (o : Out). o .says) (made-is n) ∙ ap (λ (o : Out). commitCall (o .store) (o .copy) stamp mask .says) e ∙ S .1,
+        λ t. ap (λ (o : Out). o .says) (made-is n) ∙ ap (λ (o : Out). commitCall (o .store) (o .copy) stamp mask .says) e ∙ S .1 t,
       );
 }

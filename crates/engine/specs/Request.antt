@@ -2,7 +2,7 @@
 -- Assumes nothing.
 use Rattle.model.specs.Calls.{Created, Out, Place, call, createCopy, createStore, readPlace, showPlace}
 use Rattle.model.specs.History.{Bytes}
-use Rattle.model.specs.Machine.{Add, Answer, Call, Commits, Copy, Delete, Edit, Log, Move, Read, Revert, Show, Status, Update}
+use Rattle.model.specs.Machine.{Add, Answer, Call, Clears, Commits, Copy, Delete, Edit, Log, Move, Read, Revert, Show, Status, Update}
 use Rattle.model.specs.Types.{answerOf, placeOf}
 use Rattle.inner.specs.Performs.{callOf}
 use Rattle.inner.specs.declared.Reply.{Reply}
@@ -45,6 +45,7 @@ called store copy (Read R i) = answered (stands (readPlace store R i)) store cop
 called store copy (Show i) = answered (stands (showPlace store copy i)) store copy
 called store copy (Status i) = outSaid (call store copy (Status i))
 called store copy (Log R i) = outSaid (call store copy (Log R i))
+called store copy Clears = outSaid (call store copy Clears)
 
 -- "Create takes the buffer it makes": the other stays
 abbrev pub storeSaid : Created → Bytes → Answered

@@ -1,13 +1,15 @@
-// Every call of document 01, total: it checks what it is handed in the document's order, and either does its work or answers the refusal and leaves every buffer unchanged.
+// Every call of document 01 and the clearing of a tail, total: each checks what it is handed in the document's order, and either does its work or answers the refusal and leaves every buffer unchanged.
 // Each promise is one equation with the call's meaning in crates/model/specs/Calls.antt. `call` takes any of them as one request (specs/Request.antt).
 ghost use mathlib.Core.List.{[]};
 ghost use mathlib.Core.Path.{_≡_};
-ghost use Rattle.model.specs.Calls.{addCall, commitCall, copyCall, createCopy, createStore, deleteCall, editCall, logCall, moveCall, out, partOf, readPlace, revertCall, showPlace, sizeCondition, statusCall, updateCall};
+ghost use Rattle.model.specs.Calls.{addCall, clearCall, commitCall, copyCall, createCopy, createStore, deleteCall, editCall, logCall, moveCall, out, partOf, readPlace, revertCall, showPlace, sizeCondition, statusCall, updateCall};
 ghost use Rattle.model.specs.Types.{actionNumber, answerOf, createdAs, numberOf, sourceRevision, sourceSheet};
 ghost use Rattle.engine.specs.Part.{PartAt, ShownAt};
 ghost use Rattle.engine.specs.Request.{answered, called, requested, tellsOf};
 ghost use Rattle.inner.specs.Performs.{Within, callOf};
 ghost use Rattle.inner.specs.Place.{Located};
+ghost use Rattle.store.specs.Opened.{openOf};
+ghost use Rattle.store.specs.declared.Opened.the-variants.{Open};
 use entries::Checked;
 use inner::Call;
 use inner::Reply;
@@ -15,6 +17,7 @@ use model::Action;
 use model::Answer;
 use model::Place;
 use model::Refusal;
+use store::Header;
 use store::Opened;
 
 // ---- create
@@ -196,17 +199,32 @@ pub fn move_sheet(store: &[u8], copy: &mut [u8], from: u32, to: u32) -> Answer
 
 // ---- the store and the working copy
 
-// Commit: the chosen pending entries become the next revision.
-pub fn commit(store: &mut [u8], copy: &mut [u8], stamp: u32, mask: u32) -> Answer
+// Commit on a store that is open: a tail refuses it before the working copy is looked at.
+fn commit_open(store: &mut [u8], copy: &mut [u8], h: Header, stamp: u32, mask: u32) -> Answer
+    requires { ⌜ openOf (now store) ≡ Open h ⌝ }
     ensures { λ r. ⌜ out (answerOf r) (now (store .exit)) (now (copy .exit)) ≡ commitCall (now (store .entry)) (now (copy .entry)) stamp mask ⌝ }
 {
-    let c = entries::check(store, copy);
+    if tails::has(store, h.used) {
+        return Answer::Refused(Refusal::Tail);
+    }
+    let c = entries::check_copy(store, copy, h);
     match c {
         Checked::Refused(k) => Answer::Refused(k),
         Checked::Ready(v) => {
             let filed = filing::commit(store, copy, v, stamp, mask);
             filed.answer
         }
+    }
+}
+
+// Commit: the chosen pending entries become the next revision.
+pub fn commit(store: &mut [u8], copy: &mut [u8], stamp: u32, mask: u32) -> Answer
+    ensures { λ r. ⌜ out (answerOf r) (now (store .exit)) (now (copy .exit)) ≡ commitCall (now (store .entry)) (now (copy .entry)) stamp mask ⌝ }
+{
+    let opened = store::open(store);
+    match opened {
+        Opened::Refused(k) => Answer::Refused(k),
+        Opened::Open(h) => commit_open(store, copy, h, stamp, mask),
     }
 }
 
@@ -232,6 +250,19 @@ pub fn revert(store: &[u8], copy: &mut [u8], mask: u32) -> Answer
     }
 }
 
+// ---- the tail
+
+// Clear: the blocks of the tail become zero blocks, from the highest down.
+pub fn clear(store: &mut [u8]) -> Answer
+    ensures { λ r. ⌜ createdAs r (now (store .exit)) ≡ clearCall (now (store .entry)) ⌝ }
+{
+    let opened = store::open(store);
+    match opened {
+        Opened::Refused(k) => Answer::Refused(k),
+        Opened::Open(h) => inner::clear_in(store, h),
+    }
+}
+
 // ---- any call
 
 // A request: create of the store, create of the copy for a seat, or a call.
@@ -241,7 +272,7 @@ pub enum Request {
     Call(Call),
 }
 
-// One of the twelve calls, by its own function.
+// One of the thirteen calls, by its own function.
 fn call_named(store: &mut [u8], copy: &mut [u8], named: Call, bytes: &[u8]) -> Reply
     ensures { λ r. ⌜ (answered (tellsOf r) (now (store .exit)) (now (copy .exit)) ≡ called (now (store .entry)) (now (copy .entry)) (callOf named (now (bytes .entry)))) × Within (now (store .exit)) (now (copy .exit)) r ⌝ }
 {
@@ -258,6 +289,7 @@ fn call_named(store: &mut [u8], copy: &mut [u8], named: Call, bytes: &[u8]) -> R
         Call::Show(sheet) => Reply::At(show_place(store, copy, sheet)),
         Call::Status(sheet) => Reply::Said(status(store, copy, sheet)),
         Call::Log(revision, sheet) => Reply::Said(log(store, revision, sheet)),
+        Call::Clear => Reply::Said(clear(store)),
     }
 }
 
@@ -292,6 +324,7 @@ pub fn number(refusal: Refusal) -> u32
         Refusal::OutOfDate => 11,
         Refusal::Conflict => 12,
         Refusal::NoRoom => 13,
+        Refusal::Tail => 14,
     }
 }
 

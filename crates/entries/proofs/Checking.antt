@@ -14,9 +14,9 @@ use Rattle.model.specs.Calls.{changeBy, changeCall, copyConditions, copySizeCon
 use Rattle.model.specs.Fitting.{fitsStore}
 use Rattle.model.specs.History.{Bytes, last}
 use Rattle.model.specs.Machine.{Call}
-use Rattle.model.specs.Refusals.{Condition, _when_, conditions, firstOf}
+use Rattle.model.specs.Refusals.{Clear, Condition, _when_, conditions, firstOf, tailConditions}
 use Rattle.model.specs.Shows.{Accepted}
-use Rattle.model.specs.Store.{blockCount, checked, lawful, storeHistory, usedOf}
+use Rattle.model.specs.Store.{blockCount, checkedBut, lawfulBut, storeHistory, usedOf}
 use Rattle.model.specs.Types.{numberOf}
 use Rattle.model.specs.WorkCopy.{copyOk, entriesOf, seatOf}
 use Rattle.model.specs.declared.Refusal.{Refusal}
@@ -60,7 +60,7 @@ module _ (store copy : Bytes) where
   pub store-refused : {k : Refusal} → openOf store ≡ NotOpen k → Refused k ≡ checkOf store copy
   unfolding openOf checkOf
   store-refused {k} q =
-      ways-store (sizeCondition store .holds) (not (checked (blockCount store) store)) (not (lawful (blockCount store) store)) (copySizeCondition copy .holds)
+      ways-store (sizeCondition store .holds) (not (checkedBut (blockCount store) store)) (not (lawfulBut (blockCount store) store)) (copySizeCondition copy .holds)
       (not (copyOk copy)) (not (fitsStore (storeHistory store) (entriesOf copy))) (record { last = last (storeHistory store); used = usedOf store }) (viewOf store copy) k q
 
   module _ {h : Header} (p : openOf store ≡ Open h) where
@@ -146,7 +146,7 @@ module _ (store copy : Bytes) where
   pub check-refused : (k : Refusal) → checkOf store copy ≡ Refused k → firstOf (storeConditions store ++ copyConditions store copy) ≡ some (numberOf k)
   unfolding checkOf
   check-refused k q =
-      refused-so (sizeCondition store .holds) (not (checked (blockCount store) store)) (not (lawful (blockCount store) store)) (copySizeCondition copy .holds)
+      refused-so (sizeCondition store .holds) (not (checkedBut (blockCount store) store)) (not (lawfulBut (blockCount store) store)) (copySizeCondition copy .holds)
       (not (copyOk copy)) (not (fitsStore (storeHistory store) (entriesOf copy))) (viewOf store copy) k q
 
   pub fitting-accepted : (v : View) → Fitting store copy v → Accepted store copy
@@ -157,12 +157,13 @@ module _ (store copy : Bytes) where
         copyTaken = none-holds (copyConditions store copy) (ap not (eq-eqb (length copy) 16_896 (a .size)), (ap not (is-true (copyOk copy) (a .ok)), (ap not (f .fits), tt)));
       }
 
--- where no line from 1 to 6 holds, the inner call is the call
-pub inner-call : (store copy : Bytes) (v : View) → Fitting store copy v → (c : Call) → innerOut store copy c ≡ changeCall store copy c
+-- where no line from 1 to 6 holds, nor 14, the inner call is the call
+pub inner-call : (store copy : Bytes) (v : View) → Fitting store copy v → (c : Call) → Clear (tailConditions (sideIn store copy) c) → innerOut store copy c ≡ changeCall store copy c
 unfolding innerOut changeCall refusalOf
-inner-call store copy v F c =
+inner-call store copy v F c t =
     let A = fitting-accepted store copy v F in
+    let ts = tailConditions (sideIn store copy) c in
     let cs = conditions (sideIn store copy) c in
     ap (λ (o : Option ℕ). changeBy o store copy c)
-    (sym (clear-first (storeConditions store) (copyConditions store copy ++ cs) (clear (storeConditions store) (A .storeTaken))
-    ∙ clear-first (copyConditions store copy) cs (clear (copyConditions store copy) (A .copyTaken))))
+    (sym (clear-first (storeConditions store) (ts ++ (copyConditions store copy ++ cs)) (clear (storeConditions store) (A .storeTaken))
+    ∙ clear-first ts (copyConditions store copy ++ cs) t ∙ clear-first (copyConditions store copy) cs (clear (copyConditions store copy) (A .copyTaken))))

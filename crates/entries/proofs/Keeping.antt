@@ -3,19 +3,18 @@
 use Prim.Native.Nat.{ℕ}
 use mathlib.Core.Option.{Option, none, some}
 use mathlib.Core.Path.{_∙_, _≡_, ap, refl, subst, sym}
-use lib.ListN.{length}
 use Rattle.model.specs.Calls.{Out, call, copyConditions, sideIn, storeConditions}
 use Rattle.model.specs.History.{Bytes, last}
 use Rattle.model.specs.Machine.{Call, Side}
-use Rattle.model.specs.Refusals.{conditions, firstOf}
-use Rattle.model.specs.Run.{Typed, sideBy, sideStep}
+use Rattle.model.specs.Refusals.{firstOf}
+use Rattle.model.specs.Run.{Typed, ownConditions, sideBy, sideStep}
 use Rattle.model.specs.Shows.{Accepted, Seen}
-use Rattle.model.specs.Store.{blockCount, blocksOf, front, storeHistory, usedOf}
+use Rattle.model.specs.Store.{blockCount, storeHistory, usedOf}
 use Rattle.model.specs.WorkCopy.{seatOf}
 use Rattle.laws.proofs.Accepted.{accepted-call, stays-accepted}
 use Rattle.laws.proofs.Conditions.{clear, clear-first}
 use Rattle.laws.proofs.Steps.{same-seat}
-use Rattle.laws.proofs.Store.{count-held, history-held}
+use Rattle.laws.proofs.Store.{count-held, history-held, used-held}
 use Rattle.laws.proofs.WorkCopy.{holds-copy}
 use Rattle.entries.proofs.Checking.{check-ready, fitting-accepted}
 use Rattle.entries.specs.View.{Fitting, checkOf, checkedBy, viewOf}
@@ -24,12 +23,11 @@ use Rattle.entries.specs.declared.View.{View}
 -- buffers that hold a side of the machine state its numbers
 pub seen-numbers : (N : ℕ) (store copy : Bytes) (d : Side) → Seen N store copy d
     → (blockCount store ≡ N) × (usedOf store ≡ d .used) × (storeHistory store ≡ d .history)
-seen-numbers N store copy d E =
-    let c = count-held N store (d .history) (E .stored .holds) in (
-      c,
-      ap (λ (n : ℕ). length (front (blocksOf n store))) c ∙ E .stored .uses,
-      history-held N store (d .history) (E .stored .holds),
-    )
+seen-numbers N store copy d E = (
+  count-held N store (d .history) (d .used) (d .tail) (E .stored),
+  used-held N store (d .history) (d .used) (d .tail) (E .stored),
+  history-held N store (d .history) (d .used) (d .tail) (E .stored),
+)
 
 -- buffers that no line from 1 to 6 refuses fit
 pub accepted-fitting : (store copy : Bytes) → Accepted store copy → Fitting store copy (viewOf store copy)
@@ -51,6 +49,6 @@ call-fitting store copy v F c ty {o} e {u} {l} p q =
     let E : Seen (blockCount store) (o .store) (o .copy) (sideStep d c .1) = subst (λ (x : Out). Seen (blockCount store) (x .store) (x .copy) (sideStep d c .1)) (sym e) (accepted-call store copy A c ty .1) in
     let n : blockCount (o .store) ≡ v .n = seen-numbers (blockCount store) (o .store) (o .copy) (sideStep d c .1) E .0 ∙ sym (F .viewed .opened .accepted .count) in
     let s : seatOf (o .copy) ≡ v .seat =
-    holds-copy (o .copy) (sideStep d c .1 .seat) (sideStep d c .1 .entries) (E .copied) .2 ∙ same-side (firstOf (conditions d c)) d c ∙ sym (F .seat) in
+    holds-copy (o .copy) (sideStep d c .1 .seat) (sideStep d c .1 .entries) (E .copied) .2 ∙ same-side (firstOf (ownConditions d c)) d c ∙ sym (F .seat) in
     subst (Fitting (o .store) (o .copy)) (λ i. record { n = n i; used = sym p i; last = sym q i; seat = s i })
     (accepted-fitting (o .store) (o .copy) (subst (λ (x : Out). Accepted (x .store) (x .copy)) (sym e) (stays-accepted store copy A c ty)))

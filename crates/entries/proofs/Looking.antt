@@ -1,11 +1,11 @@
 -- What a search in an accepted store says of the history: whether a tree has a sheet, which block holds it, and which commit names it last.
 -- Assumes nothing.
-use Prim.Native.Nat.{_*_, _+_, _<_, _≤_, ℕ}
+use Prim.Native.Nat.{_<_, _≤_, ℕ}
 use mathlib.Core.Bool.{false, not}
 use mathlib.Core.List.{List, [], _∷_}
 use mathlib.Core.Logic.{inl, inr}
 use mathlib.Core.Option.{Option, none, some}
-use mathlib.Core.Path.{_∙_, _≡_, ap, subst, sym}
+use mathlib.Core.Path.{_∙_, _≡_, ap, refl, subst, sym}
 use native.Mathlib.Omega.{arith}
 use borrow.Author.Tests.{eq-eqb, le-leb, lt-leb, ne-eqb}
 use lib.Dec.{eqb, leb, ltb}
@@ -16,18 +16,18 @@ use Rattle.model.specs.Calls.{storeConditions}
 use Rattle.model.specs.Fitting.{has}
 use Rattle.model.specs.History.{Bytes, Change, History, Tree, applied, last, namedAfter, namer, newest, present, sheet, tree, treeFrom, tree₀}
 use Rattle.model.specs.Refusals.{firstOf}
-use Rattle.model.specs.Store.{blockCount, storeBlocks, storeHistory}
+use Rattle.model.specs.Store.{bareOf, blockCount, storeBlocks, storeHistory, usedOf}
 use Rattle.model.specs.declared.Span.{Span}
 use Rattle.laws.proofs.Accepting.{accepted-sound}
-use Rattle.laws.proofs.Places.{store-place}
+use Rattle.laws.proofs.Places.{taken-held}
 use Rattle.laws.proofs.Rows.{and-nothing}
 use Rattle.laws.proofs.Store.{taken-holds}
 use Rattle.laws.proofs.Trees.{unnamed}
 use Rattle.laws.proofs.Writing.{Blocks, holds-blocks, is-none}
 use Rattle.entries.specs.View.{Holding, Opened}
 use Rattle.entries.specs.declared.View.{View}
-use Rattle.search.proofs.Finding.{block-holds, block-inside, block-lacks}
-use Rattle.search.specs.Find.{Spanned, foundIn}
+use Rattle.search.proofs.Finding.{block-holds, block-lacks, block-span, block-used}
+use Rattle.search.specs.Find.{Accepted, Spanned, foundIn}
 use Rattle.search.specs.declared.Found.{Found}
 
 -- a tree has 32 rows at most
@@ -45,16 +45,15 @@ unfolding tree
 no-such-sheet h r i g = List·getD-eq-default (treeFrom tree₀ (take r h)) none {n = i} (omega (arith, rows-from tree₀ (take r h)))
 
 -- the blocks of a store that is accepted
-abbrev storeBlocksOf : (store : Bytes) → firstOf (storeConditions store) ≡ none → Blocks (blockCount store) store (storeHistory store) (storeBlocks store)
-storeBlocksOf store t = holds-blocks (blockCount store) store (storeHistory store) (taken-holds store t)
+abbrev storeBlocksOf : (store : Bytes) → firstOf (storeConditions store) ≡ none → Blocks (blockCount store) (bareOf store) (storeHistory store) (storeBlocks store)
+storeBlocksOf store t = holds-blocks (blockCount store) (bareOf store) (storeHistory store) (taken-holds store t)
 
--- what stands at the place of a block
-pub block-bytes : (store : Bytes) (p : ℕ) {x : Span} → firstOf (storeConditions store) ≡ none → Spanned store p x → take (x .len) (drop (x .start) store) ≡ bytesAt (storeBlocks store) p
-block-bytes store p t s =
-    let B = storeBlocksOf store t in
-    ap (λ (x : Span). take (x .len) (drop (x .start) store)) (s .is)
-    ∙ ap (λ (l : Bytes). take (length (bytesAt (storeBlocks store) p)) (drop (512 * p + 16) l)) (sym (B .bytes))
-    ∙ store-place (storeBlocks store) p (B .fit)
+-- what stands at the place of a used block
+pub block-bytes : (store : Bytes) (p : ℕ) {x : Span} → firstOf (storeConditions store) ≡ none → p < usedOf store → Spanned store p x
+    → take (x .len) (drop (x .start) store) ≡ bytesAt (storeBlocks store) p
+block-bytes store p t h s =
+    let A : Accepted store (blockCount store) (usedOf store) = record { clear = t; count = refl; inUse = refl } in
+    ap (λ (x : Span). take (x .len) (drop (x .start) store)) (s .is ∙ block-span store (blockCount store) (usedOf store) A p h) ∙ taken-held store t p h
 
 module _ (store : Bytes) (v : View) (o : Opened store v) where
   pub has-late : (r i : ℕ) → v .last < r → false ≡ has (storeHistory store) r i
@@ -85,9 +84,9 @@ module _ (store : Bytes) (v : View) (o : Opened store v) where
           | inr n ↦ rw (ne-eqb (f .block) 0 n, found-some e n)
         ]
 
-    -- and it is one of the store's
-    pub found-inside : {f : Found} → f ≡ foundIn store r i → f .block < blockCount store
-    found-inside e = subst (λ (f : Found). f .block < blockCount store) (sym e) (block-inside store (v .n) (v .used) (o .accepted) r i .0)
+    -- and it is a used one
+    pub found-used : {f : Found} → f ≡ foundIn store r i → f .block < usedOf store
+    found-used e = subst (λ (f : Found). f .block < usedOf store) (sym e) (block-used store (v .n) (v .used) (o .accepted) r i)
 
     -- so it holds what the tree has
     pub holding-found : {f : Found} → f ≡ foundIn store r i → Holding store (sheet (storeHistory store) r i) (f .block)
@@ -97,7 +96,7 @@ module _ (store : Bytes) (v : View) (o : Opened store v) where
             | inl z ↦ rw (eq-eqb (f .block) 0 z, found-none e z)
             | inr n ↦ rw (ne-eqb (f .block) 0 n, found-some e n)
           ];
-      inside = found-inside e;
+      used = found-used e;
     }
 
     pub has-found : {f : Found} → f ≡ foundIn store r i → not (eqb (f .block) 0) ≡ has (storeHistory store) r i

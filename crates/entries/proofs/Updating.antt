@@ -21,7 +21,7 @@ use Rattle.model.specs.declared.Source.{Source}
 use Rattle.model.specs.declared.State.{State}
 use Rattle.model.specs.declared.State.the-variants.{Added, Copied, Deleted, Empty, Normal}
 use Rattle.laws.proofs.Trees.{has-bytes}
-use Rattle.entries.proofs.Looking.{found-inside, found-none, found-some, holding-found}
+use Rattle.entries.proofs.Looking.{found-none, found-some, found-used, holding-found}
 use Rattle.entries.proofs.States.{as-read, is-modified, own-read}
 use Rattle.entries.specs.View.{Opened, Stands, UpdateIs, agreedAs, bytesOf, heldIn, takenAs, updatedAs}
 use Rattle.entries.specs.declared.Update.{Update}
@@ -68,7 +68,7 @@ module _ (store copy : Bytes) (v : View) (o : Opened store v) (R i : ℕ) (le : 
       subst (Stands store) (sym z)
       (elim (eq-or (f .block) 0) [
         | inl p ↦ rw (eq-eqb (f .block) 0 p) tt
-        | inr n ↦ rw (ne-eqb (f .block) 0 n) (found-inside store v o R i le found)
+        | inr n ↦ rw (ne-eqb (f .block) 0 n) (found-used store v o R i le found)
       ])
 
   -- its bytes, where tree R has the same, or a conflict
@@ -98,7 +98,7 @@ module _ (store copy : Bytes) (v : View) (o : Opened store v) (R i : ℕ) (le : 
     agreed-inside = subst (Stands store) (sym w) (go (isBytes (bytesOf copy i) (sheet h R i)))
       where
         go : (t : Bool) → Stands store (agreedAs t (f .block))
-        go true = found-inside store v o R i le found
+        go true = found-used store v o R i le found
         go false = tt
 
   pub update-empty : {u : Update} → e .state ≡ Empty → u ≡ takenAs (f .block) → UpdateIs store copy R i u

@@ -77,10 +77,10 @@ bytesOf copy i = orNone (ownBytes (entryIn copy i))
 abbrev pub heldIn : Bytes → ℕ → Option Bytes
 heldIn store p = cond (eqb p 0) none (some (bytesAt (storeBlocks store) p))
 
--- block p of the store holds these bytes, or none: 0
+-- the used block p of the store holds these bytes, or none: 0
 pub record Holding (store : Bytes) (o : Option Bytes) (p : ℕ) : Type 0 where
   pub holds : heldIn store p ≡ o
-  pub inside : p < blockCount store
+  pub used : p < usedOf store
 
 -- the status of an entry, and the last commit that names its sheet
 abbrev pub standingOf : History → ℕ → Entry → Standing
@@ -115,12 +115,12 @@ updatedAs Clear store R e = some empty
 updatedAs (Take p) store R e = some (normal R (bytesAt (storeBlocks store) p))
 updatedAs Rebase store R e = some (rebased R e)
 
--- a block that is taken is one of the store's
+-- a block that is taken is a used one
 abbrev pub Stands : Bytes → Update → Type 0
 Stands store Conflict = Unit {0}
 Stands store Stay = Unit {0}
 Stands store Clear = Unit {0}
-Stands store (Take p) = p < blockCount store
+Stands store (Take p) = p < usedOf store
 Stands store Rebase = Unit {0}
 
 -- x is what an update to R makes of entry i
@@ -130,7 +130,7 @@ pub record UpdateIs (store copy : Bytes) (R i : ℕ) (x : Update) : Type 0 where
 
 -- ---- inner calls
 
--- the call on buffers, where no line from 1 to 6 holds: the machine's own conditions are the only ones left
+-- the call on buffers, where no line from 1 to 6 holds, nor 14: the machine's other conditions are the only ones left
 unfoldable pub innerOut : Bytes → Bytes → Call → Out
 innerOut store copy c = changeBy (firstOf (conditions (sideIn store copy) c)) store copy c
 

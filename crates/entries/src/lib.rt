@@ -15,7 +15,7 @@ ghost use Rattle.model.specs.Fitting.{has as hasSheet};
 ghost use Rattle.model.specs.History.{isBytes, namedAfter, newest, present, sheet};
 ghost use Rattle.model.specs.Machine.{statusOf};
 ghost use Rattle.model.specs.Refusals.{firstOf, outOfDate};
-ghost use Rattle.model.specs.Store.{blockCount, storeHistory};
+ghost use Rattle.model.specs.Store.{storeHistory, usedOf};
 ghost use Rattle.model.specs.WorkCopy.{entriesOf};
 ghost use Rattle.store.specs.Opened.{openOf};
 ghost use Rattle.store.specs.declared.Opened.the-variants.{Open};
@@ -119,7 +119,7 @@ pub fn check<'a>(store: &'a [u8], copy: &'a [u8]) -> Checked
 
 // Whether the bytes of entry i are not those that block p holds, where 0 stands for no sheet.
 fn unlike<'a>(store: &'a [u8], copy: &'a [u8], i: usize, p: usize) -> bool
-    requires { ⌜ (firstOf (storeConditions (now store)) ≡ none) × CopyAccepted (now copy) × (i < 32) × (p < blockCount (now store)) ⌝ }
+    requires { ⌜ (firstOf (storeConditions (now store)) ≡ none) × CopyAccepted (now copy) × (i < 32) × (p < usedOf (now store)) ⌝ }
     ensures { λ x. ⌜ x ≡ not (isBytes (bytesOf (now (copy .entry)) i) (heldIn (now (store .entry)) p)) ⌝ }
 {
     if p == 0 {
@@ -286,7 +286,7 @@ fn taken(p: usize) -> Update
 
 // A pending entry whose bytes are those that block p holds is taken from there; any other is a conflict.
 fn agreed<'a>(store: &'a [u8], copy: &'a [u8], i: usize, p: usize) -> Update
-    requires { ⌜ (firstOf (storeConditions (now store)) ≡ none) × CopyAccepted (now copy) × (i < 32) × (p < blockCount (now store)) ⌝ }
+    requires { ⌜ (firstOf (storeConditions (now store)) ≡ none) × CopyAccepted (now copy) × (i < 32) × (p < usedOf (now store)) ⌝ }
     ensures { λ x. ⌜ x ≡ agreedAs (isBytes (bytesOf (now (copy .entry)) i) (heldIn (now (store .entry)) p)) p ⌝ }
 {
     if !unlike(store, copy, i, p) {

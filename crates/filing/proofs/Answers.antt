@@ -14,7 +14,7 @@ use Rattle.model.specs.Machine.{Commits, Side, chosen, committed}
 use Rattle.model.specs.Refusals.{conditions, firstOf, nothingChosen, outOfDate, someStale}
 use Rattle.model.specs.Rows.{some-row}
 use Rattle.model.specs.Shows.{Accepted}
-use Rattle.model.specs.Store.{storeHistory}
+use Rattle.model.specs.Store.{storeHistory, tailOf}
 use Rattle.model.specs.Types.{numberOf}
 use Rattle.model.specs.WorkCopy.{HoldsCopy, copyBytes, entriesOf, seatOf}
 use Rattle.model.specs.declared.Answer.the-variants.{Refused, Revision as TheRevision}
@@ -118,9 +118,10 @@ module _ (store copy : Bytes) (v : View) (F : Fitting store copy v) where
   unfolding HoldsCopy
   seat-small = omega (arith, F .seat, held copy (F .viewed .accepted) .1 .1)
 
-  pub may-commit : {mask : ℕ} {changed places : List ℕ} → RightFlags store copy mask changed places → Asked store copy (v .used) (v .last + 1) (v .seat) mask changed places
-  may-commit R = record {
+  pub may-commit : {mask : ℕ} {changed places : List ℕ} → tailOf store ≡ 0 → RightFlags store copy mask changed places → Asked store copy (v .used) (v .last + 1) (v .seat) mask changed places
+  may-commit t R = record {
     taken = taken;
+    untailed = t;
     uses = F .viewed .opened .accepted .inUse;
     next = omega (arith, F .viewed .opened .last);
     by = F .seat;

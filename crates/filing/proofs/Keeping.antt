@@ -1,18 +1,21 @@
 -- The store's numbers after the inner commit: refused they stay, and where it is done the blocks in use and the last revision have grown.
 -- Assumes nothing.
 use Prim.Native.Nat.{_+_, _<_, _^_, ℕ}
+use mathlib.Core.Bool.{false, not}
 use mathlib.Core.List.{[], _∷_}
 use mathlib.Core.Option.{Option, none, some}
 use mathlib.Core.Path.{_∙_, _≡_, ap, subst, sym}
 use native.Mathlib.Omega.{arith}
+use borrow.Author.Tests.{eq-eqb}
+use lib.Dec.{eqb}
 use lib.ListN.{length-append}
 use Rattle.model.specs.Calls.{Out, call, changeBy, sideIn}
 use Rattle.model.specs.History.{Bytes, last}
 use Rattle.model.specs.Machine.{Commits, Side, blocksFor, commitChanges, committing, newCommit, refused, revision}
 use Rattle.model.specs.Refusals.{conditions, firstOf}
-use Rattle.model.specs.Run.{sideBy, sideStep}
+use Rattle.model.specs.Run.{ownConditions, sideBy, sideStep}
 use Rattle.model.specs.Shows.{Seen}
-use Rattle.model.specs.Store.{blockCount, storeHistory, usedOf}
+use Rattle.model.specs.Store.{blockCount, storeHistory, tailOf, usedOf}
 use Rattle.model.specs.declared.Answer.the-variants.{Refused, Revision as TheRevision}
 use Rattle.model.specs.declared.Refusal.{Refusal}
 use Rattle.laws.proofs.Accepted.{accepted-call}
@@ -59,17 +62,20 @@ module _ (store copy : Bytes) (v : View) (F : Fitting store copy v) (stamp mask 
         ap last (n .2) ∙ length-append (d .history) (newCommit d stamp mask ∷ []) ∙ omega (arith, O .last),
       )
 
-  pub filed-done : stamp < 2 ^ 32 → {R u : ℕ} {o : Outcome} {store′ copy′ : Bytes} → Answered store copy store′ stamp mask o → o ≡ Done u
+  no-tail : tailOf store ≡ 0 → not (eqb (tailOf store) 0) ≡ false
+  no-tail t = ap not (eq-eqb (tailOf store) 0 t)
+
+  pub filed-done : tailOf store ≡ 0 → stamp < 2 ^ 32 → {R u : ℕ} {o : Outcome} {store′ copy′ : Bytes} → Answered store copy store′ stamp mask o → o ≡ Done u
       → outAs (TheRevision R) store′ copy′ ≡ innerOut store copy (Commits stamp mask)
       → FiledAs store copy stamp mask (record { answer = TheRevision R; used = u; last = v .last + 1 }) store′ copy′
-  filed-done g {R} {u} {o} {store′} {copy′} A q e =
+  filed-done t g {R} {u} {o} {store′} {copy′} A q e =
       let w = accepted-call store copy (fitting-accepted store copy v F) (Commits stamp mask) g in
-      let left : outAs (TheRevision R) store′ copy′ ≡ call store copy (Commits stamp mask) = e ∙ inner-call store copy v F (Commits stamp mask) in
-      let t = told-done store copy store′ stamp mask u (subst (Answered store copy store′ stamp mask) q A) in
-      let n = grown (firstOf (conditions d (Commits stamp mask))) (ap (λ (x : Out). x .says) left ∙ w .0)
+      let left : outAs (TheRevision R) store′ copy′ ≡ call store copy (Commits stamp mask) = e ∙ inner-call store copy v F (Commits stamp mask) (no-tail t, tt) in
+      let m = told-done store copy store′ stamp mask u (subst (Answered store copy store′ stamp mask) q A) in
+      let n = grown (firstOf (ownConditions d (Commits stamp mask))) (ap (λ (x : Out). x .says) left ∙ w .0)
       (subst (λ (x : Out). Seen (blockCount store) (x .store) (x .copy) (sideStep d (Commits stamp mask) .1)) (sym left) (w .1)) in
       record {
         is = e;
-        used = t .2 ∙ ap (λ (n : ℕ). n + blocksFor (d .history) (commitChanges (d .history) mask (d .entries))) (sym (F .viewed .opened .accepted .inUse)) ∙ sym (n .0);
+        used = m .2 ∙ ap (λ (n : ℕ). n + blocksFor (d .history) (commitChanges (d .history) mask (d .entries))) (sym (F .viewed .opened .accepted .inUse)) ∙ sym (n .0);
         last = sym (n .1);
       }

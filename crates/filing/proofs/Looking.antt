@@ -19,7 +19,7 @@ use Rattle.model.specs.declared.State.{State}
 use Rattle.model.specs.declared.State.the-variants.{Copied, Normal}
 use Rattle.laws.proofs.Accepted.{accepted-kept, accepted-seen}
 use Rattle.entries.proofs.Checking.{fitting-accepted}
-use Rattle.entries.proofs.Looking.{found-inside}
+use Rattle.entries.proofs.Looking.{found-used}
 use Rattle.entries.proofs.States.{as-read}
 use Rattle.entries.specs.View.{Fitting, bytesOf, entryIn, orNone}
 use Rattle.entries.specs.declared.View.{View}
@@ -84,4 +84,5 @@ module _ (store copy : Bytes) {k : ℕ} {e : TheEntry} (r : Reading copy k e) wh
 
       pub source-small : {f : Found} → f ≡ foundIn store (s .revision) (s .sheet) → f .block < 65_536
       source-small w =
-          omega (arith, found-inside store v (F .viewed .opened) (s .revision) (s .sheet) source-near w, accepted-seen store copy (fitting-accepted store copy v F) .many)
+          let E = accepted-seen store copy (fitting-accepted store copy v F) in
+          omega (arith, found-used store v (F .viewed .opened) (s .revision) (s .sheet) source-near w, E .stored .room, E .many)

@@ -15,7 +15,7 @@ ghost use Rattle.filing.specs.Filed.{FiledAs, unfiledAs};
 ghost use Rattle.filing.specs.Inner.{Settling, altered, settledAs, settledRows, settledState, sourceBlock, staysAs};
 ghost use Rattle.model.specs.Calls.{sideIn};
 ghost use Rattle.model.specs.Refusals.{someStale};
-ghost use Rattle.model.specs.Store.{storeHistory};
+ghost use Rattle.model.specs.Store.{storeHistory, tailOf};
 ghost use Rattle.model.specs.WorkCopy.{copyBytes, entriesOf, seatOf};
 
 // ---- what is found out before
@@ -176,9 +176,9 @@ fn unfiled(v: View, k: Refusal) -> Filed
     }
 }
 
-// Commits the chosen entries, or the refusal.
+// Commits the chosen entries into a store without a tail, or the refusal.
 pub fn commit(store: &mut [u8], copy: &mut [u8], v: View, stamp: u32, mask: u32) -> Filed
-    requires { ⌜ Fitting (now store) (now copy) v ⌝ }
+    requires { ⌜ Fitting (now store) (now copy) v × (tailOf (now store) ≡ 0) ⌝ }
     ensures { λ r. ⌜ FiledAs (now (store .entry)) (now (copy .entry)) stamp mask r (now (store .exit)) (now (copy .exit)) ⌝ }
 {
     if mask == 0 {

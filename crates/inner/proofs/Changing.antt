@@ -1,35 +1,62 @@
 -- A call that takes both buffers, after `entries::check`: refused as the check says, or done as the inner function does it.
 -- Assumes nothing.
 use Prim.Native.Nat.{ℕ}
+use mathlib.Core.Bool.{Bool, cond, not, true}
 use mathlib.Core.List.{_++_, append-assoc}
-use mathlib.Core.Option.{Option, some}
+use mathlib.Core.Option.{Option, none, some}
 use mathlib.Core.Path.{_∙_, _≡_, ap, sym}
+use lib.Dec.{eqb}
 use Rattle.model.specs.Calls.{Out, changeBy, changeCall, copyConditions, out, refusalOf, sideIn, storeConditions}
 use Rattle.model.specs.History.{Bytes}
-use Rattle.model.specs.Machine.{Call, refused}
-use Rattle.model.specs.Refusals.{conditions, firstOf}
+use Rattle.model.specs.Machine.{Call, Commits, refused}
+use Rattle.model.specs.Refusals.{Clear, conditions, firstOf, tailConditions}
+use Rattle.model.specs.Store.{tailOf}
 use Rattle.model.specs.Types.{answerOf, numberOf}
 use Rattle.model.specs.declared.Answer.{Answer}
 use Rattle.model.specs.declared.Refusal.{Refusal}
-use Rattle.laws.proofs.Conditions.{clear}
-use Rattle.inner.proofs.Refusing.{first-stays}
+use Rattle.model.specs.declared.Refusal.the-variants.{Tail}
+use Rattle.laws.proofs.Conditions.{clear, clear-first}
+use Rattle.inner.proofs.Refusing.{first-skips, first-stays}
 use Rattle.entries.proofs.Checking.{check-ready, check-refused, fitting-accepted, inner-call}
 use Rattle.entries.specs.View.{Fitting, checkOf, innerOut}
 use Rattle.entries.specs.declared.Checked.the-variants.{Ready, Refused}
 use Rattle.entries.specs.declared.View.{View}
 use Rattle.local.proofs.Calls.{Local, local-call}
 use Rattle.local.specs.Local.{LocalOut, localOut}
+use Rattle.store.proofs.Opening.{open-refused}
+use Rattle.store.specs.Opened.{openOf}
+use Rattle.store.specs.declared.Opened.the-variants.{Refused as NotOpen}
 
 module _ (store copy : Bytes) where
-  pub check-refusal : (k : Refusal) (c : Call) → checkOf store copy ≡ Refused k → refusalOf store copy c ≡ some (numberOf k)
+  pub check-refusal : (k : Refusal) (c : Call) → Clear (tailConditions (sideIn store copy) c) → checkOf store copy ≡ Refused k → refusalOf store copy c ≡ some (numberOf k)
   unfolding refusalOf
-  check-refusal k c e =
-      ap firstOf (sym (append-assoc (storeConditions store) (copyConditions store copy) (conditions (sideIn store copy) c)))
+  check-refusal k c t e =
+      first-skips (storeConditions store) (tailConditions (sideIn store copy) c) (copyConditions store copy ++ conditions (sideIn store copy) c) t
+      ∙ ap firstOf (sym (append-assoc (storeConditions store) (copyConditions store copy) (conditions (sideIn store copy) c)))
       ∙ first-stays (storeConditions store ++ copyConditions store copy) (conditions (sideIn store copy) c) (numberOf k) (check-refused store copy k e)
 
-  pub refused-call : (k : Refusal) (c : Call) → checkOf store copy ≡ Refused k → out (refused (numberOf k)) store copy ≡ changeCall store copy c
+  refused-by : (k : Refusal) (c : Call) → refusalOf store copy c ≡ some (numberOf k) → out (refused (numberOf k)) store copy ≡ changeCall store copy c
   unfolding changeCall
-  refused-call k c e = sym (ap (λ (o : Option ℕ). changeBy o store copy c) (check-refusal k c e))
+  refused-by k c e = sym (ap (λ (o : Option ℕ). changeBy o store copy c) e)
+
+  pub refused-call : (k : Refusal) (c : Call) → Clear (tailConditions (sideIn store copy) c) → checkOf store copy ≡ Refused k → out (refused (numberOf k)) store copy ≡ changeCall store copy c
+  refused-call k c t e = refused-by k c (check-refusal k c t e)
+
+  -- a line on the store comes first
+  pub refused-store : (k : Refusal) (c : Call) → openOf store ≡ NotOpen k → out (refused (numberOf k)) store copy ≡ changeCall store copy c
+  unfolding refusalOf
+  refused-store k c e =
+      refused-by k c (first-stays (storeConditions store) (tailConditions (sideIn store copy) c ++ (copyConditions store copy ++ conditions (sideIn store copy) c)) (numberOf k) (open-refused store k e))
+
+  -- then 14
+  pub commit-tailed : (stamp mask : ℕ) → firstOf (storeConditions store) ≡ none → not (eqb (tailOf store) 0) ≡ true
+      → out (refused 14) store copy ≡ changeCall store copy (Commits stamp mask)
+  unfolding refusalOf
+  commit-tailed stamp mask e t =
+      let cs = tailConditions (sideIn store copy) (Commits stamp mask) ++ (copyConditions store copy ++ conditions (sideIn store copy) (Commits stamp mask)) in
+      refused-by Tail (Commits stamp mask)
+      (clear-first (storeConditions store) cs (clear (storeConditions store) e)
+      ∙ ap (λ (b : Bool). cond b (some 14) (firstOf (copyConditions store copy ++ conditions (sideIn store copy) (Commits stamp mask)))) t)
 
   pub local-fits : (v : View) → Fitting store copy v → (c : Call) (a : Answer) (copy′ : Bytes) → Local c → record { says = answerOf a; copy = copy′ } ≡ localOut copy c
       → out (answerOf a) store copy′ ≡ changeCall store copy c
@@ -42,6 +69,6 @@ module _ (store copy : Bytes) where
       → out (answerOf a) store copy′ ≡ changeCall store copy c
   local-done v c a copy′ e l q = local-fits v (check-ready store copy v e) c a copy′ l q
 
-  -- where no line from 1 to 6 holds, the call is the inner call
-  pub inner-done : (v : View) (c : Call) {o : Out} → checkOf store copy ≡ Ready v → o ≡ innerOut store copy c → o ≡ changeCall store copy c
-  inner-done v c e q = q ∙ inner-call store copy v (check-ready store copy v e) c
+  -- where no line from 1 to 6 holds, nor 14, the call is the inner call
+  pub inner-done : (v : View) (c : Call) {o : Out} → Clear (tailConditions (sideIn store copy) c) → checkOf store copy ≡ Ready v → o ≡ innerOut store copy c → o ≡ changeCall store copy c
+  inner-done v c t e q = q ∙ inner-call store copy v (check-ready store copy v e) c t

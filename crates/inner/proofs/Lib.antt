@@ -4,3 +4,4 @@ pub mod Looking
 pub mod Changing
 pub mod Showing
 pub mod Performing
+pub mod Clearing

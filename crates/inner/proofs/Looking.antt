@@ -4,7 +4,7 @@ use Prim.Native.Nat.{_<_, _≤_, ℕ}
 use mathlib.Core.Bool.{Bool, _||_, false, not, true}
 use mathlib.Core.List.{[], _∷_}
 use mathlib.Core.Option.{Option}
-use mathlib.Core.Path.{_∙_, _≡_, ap, ap₂, refl, sym}
+use mathlib.Core.Path.{_∙_, _≡_, ap, ap₂, refl, subst, sym}
 use native.Mathlib.Omega.{arith}
 use borrow.Author.Tests.{eq-eqb, le-ltb, lt-ltb, ltb-false, ne-eqb}
 use lib.Dec.{eqb, ltb}
@@ -12,14 +12,14 @@ use Rattle.model.specs.Calls.{answerBy, blockPlace, foundPlace, inStore, logCal
 use Rattle.model.specs.History.{Bytes, last, present, sheet}
 use Rattle.model.specs.Machine.{Log, Read, doing, refused}
 use Rattle.model.specs.Refusals.{_when_, firstOf, noSheet, tooLate}
-use Rattle.model.specs.Store.{blockCount, blockUsed, storeHistory}
+use Rattle.model.specs.Store.{blockCount, blockUsed, storeHistory, usedOf}
 use Rattle.model.specs.Types.{numberOf, placeOf}
 use Rattle.model.specs.declared.Place.the-variants.{InStore}
 use Rattle.model.specs.declared.Refusal.{Refusal}
 use Rattle.model.specs.declared.Span.{Span}
 use Rattle.laws.proofs.Rows.{or-false}
 use Rattle.inner.proofs.Refusing.{store-open, store-refused}
-use Rattle.search.proofs.Finding.{block-holds, block-lacks, open-asked}
+use Rattle.search.proofs.Finding.{block-holds, block-lacks, block-span, block-used, open-asked}
 use Rattle.search.specs.Find.{foundIn, spanOf}
 use Rattle.search.specs.declared.Found.{Found}
 use Rattle.store.proofs.Opening.{open-accepted, open-refused}
@@ -106,7 +106,10 @@ module _ (store : Bytes) (R i : ℕ) where
 
       pub read-there : (f : Found) (x : Span) → f ≡ foundIn store R i → (f .block ≡ 0 → ⊥) → x ≡ spanOf store (f .block) → placeOf (InStore x (f .revision)) ≡ readPlace store R i
       read-there f x u z s =
-          ap (λ (y : Span). inStore (y .start) (y .len) (f .revision)) s ∙ ap (λ (f : Found). blockPlace store (f .block) (f .revision)) u
+          let A = open-asked store h e in
+          let b : f .block < usedOf store = subst (λ (f : Found). f .block < usedOf store) (sym u) (block-used store (blockCount store) (h .used) A R i) in
+          ap (λ (y : Span). inStore (y .start) (y .len) (f .revision)) (s ∙ block-span store (blockCount store) (h .used) A (f .block) b)
+          ∙ ap (λ (f : Found). blockPlace store (f .block) (f .revision)) u
           ∙ read-found (λ y. z (ap (λ (f : Found). f .block) u ∙ y))
 
       pub log-there : (R ≡ 0 → ⊥) → doing (storeSide store) (Log R i) .0 ≡ logCall store R i

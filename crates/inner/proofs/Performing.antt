@@ -1,26 +1,35 @@
 -- `perform`, one call at a time: what its inner function answers and leaves is the machine's call, and the buffers fit again.
 -- Assumes nothing.
 use Prim.Native.Nat.{_<_, _^_, ℕ}
+use mathlib.Core.Bool.{Bool, false, not, true}
 use mathlib.Core.List.{[]}
 use mathlib.Core.Path.{_∙_, _≡_, ap, refl, subst, sym}
 use native.Mathlib.Omega.{arith}
+use borrow.Author.Tests.{eqb-true, not-false}
+use lib.Dec.{eqb}
 use lib.ListN.{drop, take}
-use Rattle.model.specs.Calls.{Place as Spot, call, changeCall, heard, logCall, out, readPlace, showPlace, statusCall}
-use Rattle.model.specs.History.{Bytes}
-use Rattle.model.specs.Machine.{Answer as Said·, Call, Commits, Log, Read, Show, Status, bytes}
-use Rattle.model.specs.Run.{Typed}
-use Rattle.model.specs.Types.{answerOf, placeOf}
+use Rattle.model.specs.Calls.{Created, Out, Place as Spot, call, changeCall, clearCall, heard, logCall, out, readPlace, showPlace, sideIn, statusCall}
+use Rattle.model.specs.History.{Bytes, last}
+use Rattle.model.specs.Machine.{Answer as Said·, Call, Clears, Commits, Log, Read, Show, Status, bytes}
+use Rattle.model.specs.Refusals.{Clear, tailConditions}
+use Rattle.model.specs.Run.{Typed, sideStep}
+use Rattle.model.specs.Shows.{Seen}
+use Rattle.model.specs.Store.{blockCount, tailOf}
+use Rattle.model.specs.Types.{answerOf, createdAs, placeOf}
 use Rattle.model.specs.declared.Answer.{Answer}
+use Rattle.model.specs.declared.Answer.the-variants.{Refused as NotDone}
 use Rattle.model.specs.declared.Place.{Place}
 use Rattle.model.specs.declared.Place.the-variants.{InCopy, InStore, Refused}
-use Rattle.entries.proofs.Checking.{inner-call}
-use Rattle.entries.proofs.Keeping.{call-fitting}
+use Rattle.model.specs.declared.Refusal.the-variants.{Tail}
+use Rattle.laws.proofs.Accepted.{accepted-call}
+use Rattle.entries.proofs.Checking.{fitting-accepted, inner-call}
+use Rattle.entries.proofs.Keeping.{call-fitting, seen-numbers}
 use Rattle.entries.specs.View.{Fitting, innerOut, outAs}
 use Rattle.entries.specs.declared.View.{View}
 use Rattle.filing.specs.Filed.{FiledAs}
 use Rattle.filing.specs.declared.Filed.{Filed}
-use Rattle.inner.proofs.Changing.{local-fits}
-use Rattle.inner.specs.Performs.{Performs, Within, callOf, stayAs, told}
+use Rattle.inner.proofs.Changing.{commit-tailed, local-fits}
+use Rattle.inner.specs.Performs.{CommitsAs, Performs, Within, callOf, stayAs, told}
 use Rattle.inner.specs.Place.{Inside, Located}
 use Rattle.inner.specs.declared.Call.{Call as TheCall}
 use Rattle.inner.specs.declared.Performed.{Performed}
@@ -66,14 +75,35 @@ module _ (store copy : Bytes) (v : View) (F : Fitting store copy v) where
   pub local-is : (c : Call) → Local c → (a : Answer) {copy′ : Bytes} → record { says = answerOf a; copy = copy′ } ≡ localOut copy c → out (answerOf a) store copy′ ≡ changeCall store copy c
   local-is c l a {copy′} q = local-fits store copy v F c a copy′ l q
 
-  pub inner-is : (c : Call) (a : Answer) {copy′ : Bytes} → outAs a store copy′ ≡ innerOut store copy c → out (answerOf a) store copy′ ≡ changeCall store copy c
-  inner-is c a q = q ∙ inner-call store copy v F c
+  pub inner-is : (c : Call) → Clear (tailConditions (sideIn store copy) c) → (a : Answer) {copy′ : Bytes} → outAs a store copy′ ≡ innerOut store copy c → out (answerOf a) store copy′ ≡ changeCall store copy c
+  inner-is c t a q = q ∙ inner-call store copy v F c t
 
-  pub files : (stamp mask : ℕ) → stamp < 2 ^ 32 → (f : Filed) {store′ copy′ : Bytes} → FiledAs store copy stamp mask f store′ copy′
+  -- the commit: refused for a tail, or filed
+  pub tailed : (stamp mask : ℕ) {b : Bool} → b ≡ not (eqb (tailOf store) 0) → b ≡ true
+      → CommitsAs store copy stamp mask (record { answer = NotDone Tail; used = v .used; last = v .last }) store copy
+  tailed stamp mask e t =
+      let O = F .viewed .opened in
+      record { is = commit-tailed store copy stamp mask (O .accepted .clear) (sym e ∙ t); used = O .accepted .inUse; last = O .last }
+
+  pub untailed : {b : Bool} → b ≡ not (eqb (tailOf store) 0) → b ≡ false → tailOf store ≡ 0
+  untailed e f = eqb-true (tailOf store) 0 (not-false (eqb (tailOf store) 0) (sym e ∙ f))
+
+  pub filed : (stamp mask : ℕ) {b : Bool} → b ≡ not (eqb (tailOf store) 0) → b ≡ false → {f : Filed} {store′ copy′ : Bytes} → FiledAs store copy stamp mask f store′ copy′ → CommitsAs store copy stamp mask f store′ copy′
+  filed stamp mask e f A = record { is = A .is ∙ inner-call store copy v F (Commits stamp mask) (sym e ∙ f, tt); used = A .used; last = A .last }
+
+  pub files : (stamp mask : ℕ) → stamp < 2 ^ 32 → (f : Filed) {store′ copy′ : Bytes} → CommitsAs store copy stamp mask f store′ copy′
       → Performs store copy v (Commits stamp mask) (record { reply = Said (f .answer); used = f .used; last = f .last }) store′ copy′
-  files stamp mask g f A =
-      let e = A .is ∙ inner-call store copy v F (Commits stamp mask) in
-      record { is = e; within = tt; fits = call-fitting store copy v F (Commits stamp mask) g e (A .used) (A .last) }
+  files stamp mask g f A = record { is = A .is; within = tt; fits = call-fitting store copy v F (Commits stamp mask) g (A .is) (A .used) (A .last) }
+
+  -- the clearing leaves the numbers
+  pub clears : (a : Answer) {store′ : Bytes} {p : Performed} → createdAs a store′ ≡ clearCall store → p ≡ stayAs v (Said a) → Performs store copy v Clears p store′ copy
+  clears a {store′} e q =
+      let w : out (answerOf a) store′ copy ≡ call store copy Clears = ap (λ (o : Created). out (o .says) (o .buffer) copy) e in
+      let E = subst (λ (x : Out). Seen (blockCount store) (x .store) (x .copy) (sideStep (sideIn store copy) Clears .1)) (sym w) (accepted-call store copy (fitting-accepted store copy v F) Clears tt .1) in
+      let n = seen-numbers (blockCount store) store′ copy (sideStep (sideIn store copy) Clears .1) E in
+      let O = F .viewed .opened in
+      subst (λ (x : Performed). Performs store copy v Clears x store′ copy) (sym q)
+      (record { is = w; within = tt; fits = call-fitting store copy v F Clears tt w (O .accepted .inUse ∙ sym (n .1)) (O .last ∙ sym (ap last (n .2))) })
 
   pub reads : (R i : ℕ) (x : Place) {p : Performed} → Located store [] (readPlace store R i) x → p ≡ stayAs v (At x) → Performs store copy v (Read R i) p store copy
   reads R i x L q =

@@ -3,13 +3,13 @@
 use Prim.Native.Nat.{ℕ}
 use mathlib.Core.Bool.{Bool, cond, false, true}
 use mathlib.Core.List.{List, [], _++_, _∷_}
-use mathlib.Core.Option.{none, some}
-use mathlib.Core.Path.{_≡_}
+use mathlib.Core.Option.{Option, none, some}
+use mathlib.Core.Path.{_≡_, ap}
 use native.Mathlib.Omega.{arith}
 use Rattle.model.specs.Calls.{storeConditions, storeRefusal, storeSide}
 use Rattle.model.specs.History.{Bytes}
 use Rattle.model.specs.Machine.{Call}
-use Rattle.model.specs.Refusals.{Condition, conditions, firstOf}
+use Rattle.model.specs.Refusals.{Clear, Condition, conditions, firstOf}
 use Rattle.laws.proofs.Conditions.{clear, clear-first}
 
 -- a number that comes of the first list comes of both
@@ -20,6 +20,11 @@ first-stays (c ∷ cs) ds n e = go (c .holds) (first-stays cs ds n) e
     go : (b : Bool) → (firstOf cs ≡ some n → firstOf (cs ++ ds) ≡ some n) → cond b (some (c .number)) (firstOf cs) ≡ some n → cond b (some (c .number)) (firstOf (cs ++ ds)) ≡ some n
     go true f e = e
     go false f e = f e
+
+-- lines of which none holds are skipped
+pub first-skips : (cs ts ds : List Condition) → Clear ts → firstOf (cs ++ (ts ++ ds)) ≡ firstOf (cs ++ ds)
+first-skips [] ts ds t = clear-first ts ds t
+first-skips (c ∷ cs) ts ds t = ap (λ (o : Option ℕ). cond (c .holds) (some (c .number)) o) (first-skips cs ts ds t)
 
 module _ (store : Bytes) (c : Call) where
   pub store-refused : (n : ℕ) → firstOf (storeConditions store) ≡ some n → storeRefusal store c ≡ some n

@@ -12,8 +12,8 @@ use Rattle.model.specs.Calls.{Place, answerBy, blockPlace, copyConditions, foun
 use Rattle.model.specs.Entry.{ownBytes}
 use Rattle.model.specs.History.{Bytes, last, newest, present}
 use Rattle.model.specs.Machine.{Call, Show, Status, doing, entry, refused, shown}
-use Rattle.model.specs.Refusals.{_when_, conditions, firstOf, noSheet}
-use Rattle.model.specs.Store.{blockCount, blockUsed, storeHistory}
+use Rattle.model.specs.Refusals.{Clear, _when_, conditions, firstOf, noSheet, tailConditions}
+use Rattle.model.specs.Store.{blockCount, blockUsed, storeHistory, usedOf}
 use Rattle.model.specs.Types.{answerOf, entryAs, numberOf, placeOf}
 use Rattle.model.specs.declared.Answer.the-variants.{Status as StatusIs}
 use Rattle.model.specs.declared.Place.the-variants.{InStore}
@@ -23,14 +23,15 @@ use Rattle.model.specs.declared.Standing.{Standing}
 use Rattle.model.specs.declared.State.{State}
 use Rattle.model.specs.declared.State.the-variants.{Added, Copied, Deleted, Empty, Normal}
 use Rattle.laws.proofs.Conditions.{clear, clear-first}
+use Rattle.laws.proofs.Store.{taken-room}
 use Rattle.inner.proofs.Changing.{check-refusal}
 use Rattle.inner.specs.Place.{hasOwn}
 use Rattle.entries.proofs.Checking.{fitting-accepted}
-use Rattle.entries.proofs.Looking.{found-inside}
+use Rattle.entries.proofs.Looking.{found-used}
 use Rattle.entries.specs.View.{Fitting, checkOf, entryIn, standingOf}
 use Rattle.entries.specs.declared.Checked.the-variants.{Refused}
 use Rattle.entries.specs.declared.View.{View}
-use Rattle.search.proofs.Finding.{block-holds, block-lacks}
+use Rattle.search.proofs.Finding.{block-holds, block-lacks, block-span}
 use Rattle.search.specs.Find.{foundIn, spanOf}
 use Rattle.search.specs.declared.Found.{Found}
 
@@ -53,34 +54,39 @@ module _ (store copy : Bytes) where
   pub show-refused : (k : Refusal) (i : ℕ) → checkOf store copy ≡ Refused k → noPlace (numberOf k) ≡ showPlace store copy i
   unfolding showPlace
   show-refused k i e =
-      sym (ap (λ (o : Option ℕ). placeBy o (ownPlace (ownBytes (entry (sideIn store copy) i)) i (foundPlace store (last (storeHistory store)) i))) (check-refusal store copy k (Show i) e))
+      sym (ap (λ (o : Option ℕ). placeBy o (ownPlace (ownBytes (entry (sideIn store copy) i)) i (foundPlace store (last (storeHistory store)) i))) (check-refusal store copy k (Show i) tt e))
 
   pub status-refused : (k : Refusal) (i : ℕ) → checkOf store copy ≡ Refused k → refused (numberOf k) ≡ statusCall store copy i
   unfolding statusCall
-  status-refused k i e = sym (ap (λ (o : Option ℕ). answerBy o (doing (sideIn store copy) (Status i) .0)) (check-refusal store copy k (Status i) e))
+  status-refused k i e = sym (ap (λ (o : Option ℕ). answerBy o (doing (sideIn store copy) (Status i) .0)) (check-refusal store copy k (Status i) tt e))
 
   module _ (v : View) (F : Fitting store copy v) where
-    -- no line from 1 to 6 holds
-    call-open : (c : Call) → refusalOf store copy c ≡ firstOf (conditions (sideIn store copy) c)
+    -- no line from 1 to 6 holds, nor 14
+    call-open : (c : Call) → Clear (tailConditions (sideIn store copy) c) → refusalOf store copy c ≡ firstOf (conditions (sideIn store copy) c)
     unfolding refusalOf
-    call-open c =
+    call-open c t =
         let A = fitting-accepted store copy v F in
-        clear-first (storeConditions store) (copyConditions store copy ++ conditions (sideIn store copy) c) (clear (storeConditions store) (A .storeTaken))
-        ∙ clear-first (copyConditions store copy) (conditions (sideIn store copy) c) (clear (copyConditions store copy) (A .copyTaken))
+        let ts = tailConditions (sideIn store copy) c in
+        let cs = conditions (sideIn store copy) c in
+        clear-first (storeConditions store) (ts ++ (copyConditions store copy ++ cs)) (clear (storeConditions store) (A .storeTaken))
+        ∙ clear-first ts (copyConditions store copy ++ cs) t ∙ clear-first (copyConditions store copy) cs (clear (copyConditions store copy) (A .copyTaken))
 
     -- what the last tree has of the sheet, as it was found
     newest-is : (i : ℕ) {f : Found} → f ≡ foundIn store (v .last) i → f ≡ foundIn store (last (storeHistory store)) i
     newest-is i e = e ∙ ap (λ (n : ℕ). foundIn store n i) (F .viewed .opened .last)
 
+    newest-used : (i : ℕ) {f : Found} → f ≡ foundIn store (v .last) i → f .block < usedOf store
+    newest-used i e = found-used store v (F .viewed .opened) (v .last) i (omega arith) e
+
     pub newest-inside : (i : ℕ) {f : Found} → f ≡ foundIn store (v .last) i → f .block < blockCount store
-    newest-inside i e = found-inside store v (F .viewed .opened) (v .last) i (omega arith) e
+    newest-inside i e = omega (arith, newest-used i e, taken-room store (F .viewed .opened .accepted .clear))
 
     module _ (i : ℕ) where
       status-by : (a : Bool) → noSheet i ≡ a → answerBy (firstOf (7 when a ∷ [])) (answerOf (StatusIs (standingOf (storeHistory store) i (entryIn copy i)))) ≡ statusCall store copy i
       unfolding statusCall
       status-by a p =
           sym
-          (ap (λ (o : Option ℕ). answerBy o (doing (sideIn store copy) (Status i) .0)) (call-open (Status i))
+          (ap (λ (o : Option ℕ). answerBy o (doing (sideIn store copy) (Status i) .0)) (call-open (Status i) tt)
           ∙ ap (λ (x : Bool). answerBy (firstOf (7 when x ∷ [])) (doing (sideIn store copy) (Status i) .0)) p)
 
       pub status-beyond : 31 < i → refused 7 ≡ statusCall store copy i
@@ -97,7 +103,7 @@ module _ (store copy : Bytes) where
       unfolding showPlace
       show-by a b o p q r =
           sym
-          (ap (λ (x : Option ℕ). placeBy x (there (ownBytes (entryIn copy i)))) (call-open (Show i))
+          (ap (λ (x : Option ℕ). placeBy x (there (ownBytes (entryIn copy i)))) (call-open (Show i) tt)
           ∙ ap₂ (λ (x : Bool) (y : Option Bytes). placeBy (firstOf (7 when x ∷ 8 when not (present (shown y (newest (storeHistory store) i))) ∷ [])) (there y)) p q
           ∙ ap (λ (y : Bool). placeBy (firstOf (7 when a ∷ 8 when y ∷ [])) (there o)) r)
 
@@ -119,6 +125,7 @@ module _ (store copy : Bytes) where
 
           pub show-there : (f .block ≡ 0 → ⊥) → (s : Span) → s ≡ spanOf store (f .block) → placeOf (InStore s (f .revision)) ≡ showPlace store copy i
           show-there z s w =
-              ap (λ (y : Span). inStore (y .start) (y .len) (f .revision)) w ∙ ap (λ (x : Found). blockPlace store (x .block) (x .revision)) (newest-is i found)
+              ap (λ (y : Span). inStore (y .start) (y .len) (f .revision)) (w ∙ block-span store (v .n) (v .used) (F .viewed .opened .accepted) (f .block) (newest-used i found))
+              ∙ ap (λ (x : Found). blockPlace store (x .block) (x .revision)) (newest-is i found)
               ∙ show-by false false none (le-ltb 31 i g) q
               (ap (λ o. not (present o)) (block-holds store (v .n) (v .used) (F .viewed .opened .accepted) (last (storeHistory store)) i (omega arith) (λ y. z (u ∙ y))))

@@ -4,14 +4,15 @@ ghost use mathlib.Core.List.{[]};
 ghost use mathlib.Core.Path.{_≡_};
 ghost use lib.Dec.{ltb};
 ghost use Rattle.entries.specs.View.{Fitting};
-ghost use Rattle.inner.specs.Performs.{Performs, callOf, stayAs};
+ghost use Rattle.inner.specs.Performs.{CommitsAs, Performs, callOf, stayAs};
 ghost use Rattle.inner.specs.Place.{Located, hasOwn};
-ghost use Rattle.model.specs.Calls.{logCall, readPlace, showPlace, statusCall};
+ghost use Rattle.model.specs.Calls.{clearCall, logCall, readPlace, showPlace, statusCall};
 ghost use Rattle.model.specs.Refusals.{noSheet};
-ghost use Rattle.model.specs.Types.{answerOf};
+ghost use Rattle.model.specs.Types.{answerOf, createdAs};
 ghost use Rattle.store.specs.Opened.{openOf};
 ghost use Rattle.store.specs.declared.Opened.the-variants.{Open};
 use entries::View;
+use filing::Filed;
 use model::Answer;
 use model::Place;
 use model::Refusal;
@@ -33,6 +34,7 @@ pub enum Call {
     Show(u32),
     Status(u32),
     Log(u32, u32),
+    Clear,
 }
 
 // What a call answers; read and show, where the bytes stand.
@@ -131,6 +133,34 @@ pub fn status_in<'a>(store: &'a [u8], copy: &'a [u8], v: View, sheet: u32) -> An
     Answer::Status(entries::status_at(store, copy, v, sheet as usize))
 }
 
+// ---- the tail
+
+// Clears the tail of a store that is open.
+pub fn clear_in(store: &mut [u8], h: Header) -> Answer
+    requires { ⌜ openOf (now store) ≡ Open h ⌝ }
+    ensures { λ r. ⌜ createdAs r (now (store .exit)) ≡ clearCall (now (store .entry)) ⌝ }
+{
+    let used = h.used;
+    let count = tails::count(store, used);
+    tails::clear(store, used, count, count);
+    Answer::Done
+}
+
+// Commit on a store and a working copy that fits it: refused where the store has a tail.
+fn commit_in(store: &mut [u8], copy: &mut [u8], v: View, stamp: u32, mask: u32) -> Filed
+    requires { ⌜ Fitting (now store) (now copy) v ⌝ }
+    ensures { λ r. ⌜ CommitsAs (now (store .entry)) (now (copy .entry)) stamp mask r (now (store .exit)) (now (copy .exit)) ⌝ }
+{
+    if tails::has(store, v.used) {
+        return Filed {
+            answer: Answer::Refused(Refusal::Tail),
+            used: v.used,
+            last: v.last,
+        };
+    }
+    filing::commit(store, copy, v, stamp, mask)
+}
+
 // ---- any call
 
 // What a call answered, and the store's blocks in use and last revision then.
@@ -163,7 +193,7 @@ pub fn perform(store: &mut [u8], copy: &mut [u8], v: View, call: Call, bytes: &[
         Call::Copy(from, to) => stay(v, Reply::Said(local::copy_sheet(copy, from, to))),
         Call::Move(from, to) => stay(v, Reply::Said(local::move_sheet(copy, from, to))),
         Call::Commit(stamp, mask) => {
-            let filed = filing::commit(store, copy, v, stamp, mask);
+            let filed = commit_in(store, copy, v, stamp, mask);
             let answer = filed.answer;
             let reply = Reply::Said(answer);
             Performed {
@@ -194,6 +224,13 @@ pub fn perform(store: &mut [u8], copy: &mut [u8], v: View, call: Call, bytes: &[
                 used: v.used,
             };
             stay(v, Reply::Said(log_in(store, h, revision, sheet)))
+        }
+        Call::Clear => {
+            let h = Header {
+                last: v.last,
+                used: v.used,
+            };
+            stay(v, Reply::Said(clear_in(store, h)))
         }
     }
 }

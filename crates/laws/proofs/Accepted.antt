@@ -17,19 +17,19 @@ use Rattle.model.specs.Fitting.{fitsEntry, fitsStore, has}
 use Rattle.model.specs.History.{Bytes, History, last, present, sheet}
 use Rattle.model.specs.Invariant.{Base, FitsAt}
 use Rattle.model.specs.Machine.{Call, Side}
-use Rattle.model.specs.Refusals.{Clear, conditions, firstOf}
+use Rattle.model.specs.Refusals.{Clear, conditions, firstOf, tailConditions}
 use Rattle.model.specs.Rows.{some-row}
-use Rattle.model.specs.Run.{Typed, sideBy, sideStep}
+use Rattle.model.specs.Run.{Typed, ownConditions, sideBy, sideStep}
 use Rattle.model.specs.Shows.{Accepted, Seen}
-use Rattle.model.specs.Store.{Holds, blanks, blockCount, front, storeBlocks, storeHistory}
+use Rattle.model.specs.Store.{Holds, bareOf, blanks, blockCount, front, storeBlocks, storeHistory}
 use Rattle.model.specs.WorkCopy.{FitsCopyBlock, HoldsCopy, copyOk, entriesOf, entryBlock, seatOf}
 use Rattle.laws.proofs.Accepting.{accepted-sound}
 use Rattle.laws.proofs.All.{All-getD}
-use Rattle.laws.proofs.Conditions.{clear, clear-split, none-holds, sized-so}
+use Rattle.laws.proofs.Conditions.{clear, clear-split, none-holds, own-none, sized-so}
 use Rattle.laws.proofs.Invariant.{KeptSide, fits-still, kept-doing}
 use Rattle.laws.proofs.Rows.{is-T, no-row}
 use Rattle.laws.proofs.Steps.{copy-clear, same-seat, side-one, store-clear}
-use Rattle.laws.proofs.Store.{taken-holds}
+use Rattle.laws.proofs.Store.{taken-holds, taken-tailed}
 use Rattle.laws.proofs.WorkCopy.{copy-holds}
 use Rattle.laws.proofs.Writing.{front-blanks, holds-blocks}
 
@@ -62,7 +62,7 @@ module _ (store copy : Bytes) (A : Accepted store copy) where
   copy-lines : Clear (copyConditions store copy)
   copy-lines = clear (copyConditions store copy) (A .copyTaken)
 
-  holds : Holds (blockCount store) store (storeHistory store)
+  holds : Holds (blockCount store) (bareOf store) (storeHistory store)
   holds = taken-holds store (A .storeTaken)
 
   holds-mine : HoldsCopy copy (seatOf copy) (entriesOf copy)
@@ -79,14 +79,14 @@ module _ (store copy : Bytes) (A : Accepted store copy) where
         few = q .1;
         many = q .2;
         blocks = refl;
-        stored = record { holds = holds; uses = refl };
+        stored = taken-tailed store (A .storeTaken);
         copied = holds-mine;
       }
 
   pub accepted-kept : KeptSide d
   unfolding HoldsCopy
   accepted-kept =
-      let B = holds-blocks (blockCount store) store (storeHistory store) holds in
+      let B = holds-blocks (blockCount store) (bareOf store) (storeHistory store) holds in
       let bs : List Block = storeBlocks store in
       let r = accepted-sound bs (storeHistory store) (B .fit) (B .lays) in
       let l : length (front bs) + length (blanks bs) ≡ length bs = sym (length-append (front bs) (blanks bs)) ∙ ap length (front-blanks bs) in
@@ -98,17 +98,17 @@ module _ (store copy : Bytes) (A : Accepted store copy) where
         room = omega (arith, l, B .count);
       }
 
-  kept-by : (o : Option ℕ) (c : Call) → firstOf (conditions d c) ≡ o → Typed c → KeptSide (sideBy o d c .1)
+  kept-by : (o : Option ℕ) (c : Call) → firstOf (ownConditions d c) ≡ o → Typed c → KeptSide (sideBy o d c .1)
   kept-by (some n) c e ty = accepted-kept
-  kept-by none c e ty = kept-doing d c e (seats .0) (seats .1) ty accepted-kept
+  kept-by none c e ty = kept-doing d c (own-none d c e .0) (seats .0) (seats .1) ty accepted-kept
 
   still-by : (o : Option ℕ) (c : Call) → sideBy o d c .1 .seat ≡ d .seat
   still-by (some n) c = refl
   still-by none c = same-seat d c .0
 
-  fits-by : (o : Option ℕ) (c : Call) → firstOf (conditions d c) ≡ o → (i : ℕ) (e : Entry) → FitsAt (d .history) i e → FitsAt (sideBy o d c .1 .history) i e
+  fits-by : (o : Option ℕ) (c : Call) → firstOf (ownConditions d c) ≡ o → (i : ℕ) (e : Entry) → FitsAt (d .history) i e → FitsAt (sideBy o d c .1 .history) i e
   fits-by (some n) c q i e f = f
-  fits-by none c q i e f = fits-still d c q i e f
+  fits-by none c q i e f = fits-still d c (own-none d c q .0) i e f
 
   -- THE STATEMENT: on accepted buffers a call answers as the machine does on what they hold, and leaves what the machine leaves
   pub accepted-call : (c : Call) → Typed c → (call store copy c .says ≡ sideStep d c .0) × Seen (blockCount store) (call store copy c .store) (call store copy c .copy) (sideStep d c .1)
@@ -117,7 +117,7 @@ module _ (store copy : Bytes) (A : Accepted store copy) where
   -- and they are accepted again
   pub stays-accepted : (c : Call) → Typed c → Accepted (call store copy c .store) (call store copy c .copy)
   stays-accepted c ty =
-      let o : Option ℕ = firstOf (conditions d c) in
+      let o : Option ℕ = firstOf (ownConditions d c) in
       let r = accepted-call c ty in
       let k : KeptSide (sideBy o d c .1) = kept-by o c refl ty in
       let s : sideBy o d c .1 .seat ≡ d .seat = still-by o c in
@@ -132,13 +132,14 @@ module _ (store copy : Bytes) (A : Accepted store copy) where
 pub others-accepted : (store copy other : Bytes) → Accepted store copy → Accepted store other → (c : Call) → Typed c → Accepted (call store copy c .store) other
 others-accepted store copy other A B c ty =
     let d : Side = sideIn store copy in
-    let o : Option ℕ = firstOf (conditions d c) in
+    let o : Option ℕ = firstOf (ownConditions d c) in
     let r = accepted-call store copy A c ty in
     let k : KeptSide (sideBy o d c .1) = kept-by store copy A o c refl ty in
     let x : Side = record {
       seat = seatOf other;
       blocks = sideBy o d c .1 .blocks;
       used = sideBy o d c .1 .used;
+      tail = sideBy o d c .1 .tail;
       history = sideBy o d c .1 .history;
       entries = entriesOf other;
     } in
@@ -157,8 +158,11 @@ others-accepted store copy other A B c ty =
     }
 
 -- where no line of a call holds, its buffers are accepted
-pub clear-accepted : (store copy : Bytes) (c : Call) → Clear (bothConditions store copy c) → Accepted store copy × Clear (conditions (sideIn store copy) c)
+pub clear-accepted : (store copy : Bytes) (c : Call) → Clear (bothConditions store copy c)
+    → Accepted store copy × Clear (tailConditions (sideIn store copy) c) × Clear (conditions (sideIn store copy) c)
 clear-accepted store copy c h =
-    let p = clear-split (storeConditions store) (copyConditions store copy ++ conditions (sideIn store copy) c) h in
-    let q = clear-split (copyConditions store copy) (conditions (sideIn store copy) c) (p .1) in
-    (record { storeTaken = none-holds (storeConditions store) (p .0); copyTaken = none-holds (copyConditions store copy) (q .0) }, q .1)
+    let d : Side = sideIn store copy in
+    let p = clear-split (storeConditions store) (tailConditions d c ++ (copyConditions store copy ++ conditions d c)) h in
+    let w = clear-split (tailConditions d c) (copyConditions store copy ++ conditions d c) (p .1) in
+    let q = clear-split (copyConditions store copy) (conditions d c) (w .1) in
+    (record { storeTaken = none-holds (storeConditions store) (p .0); copyTaken = none-holds (copyConditions store copy) (q .0) }, w .0, q .1)

@@ -9,10 +9,10 @@ use native.Mathlib.Omega.{arith}
 use lib.ListN.{getD, length}
 use Rattle.model.specs.Entry.{Entry, added, copied, deleted, empty, modified, normal, ownBytes, pending}
 use Rattle.model.specs.History.{Bytes, History, change, last, namer, names, newest, nothing, present, sheet}
-use Rattle.model.specs.Machine.{Add, Answer, Call, Commits, Copy, Delete, Edit, Log, Move, Read, Revert, Show, Side, State, Status, Update, agreed, asBytes, asIn, chosen, doing, entry, fresh, orElse, refusal, refused, sameNamer, shown, shownNamer, sideOf, updated, updatedTo}
+use Rattle.model.specs.Machine.{Add, Answer, Call, Clears, Commits, Copy, Delete, Edit, Log, Move, Read, Revert, Show, Side, State, Status, Update, agreed, asBytes, asIn, chosen, doing, entry, fresh, orElse, refusal, refused, sameNamer, shown, shownNamer, sideOf, updated, updatedTo}
 use Rattle.model.specs.Refusals.{conditions, firstOf, noSheet, tooLate}
-use Rattle.model.specs.Run.{Turn, accepted, run, sideBy, sideStep, step, stepBy}
-use Rattle.laws.proofs.Conditions.{clear}
+use Rattle.model.specs.Run.{Turn, accepted, ownConditions, run, sideBy, sideStep, step, stepBy}
+use Rattle.laws.proofs.Conditions.{clear, own-none}
 use Rattle.laws.proofs.Lasting.{found}
 use Rattle.laws.proofs.Rows.{rows-at}
 
@@ -34,22 +34,23 @@ done-by d (Read R i) e = shows (namer (d .history) R i) (sheet (d .history) R i)
 done-by d (Show i) e = shows (shownNamer (ownBytes (entry d i)) (namer (d .history) (last (d .history)) i)) (shown (ownBytes (entry d i)) (newest (d .history) i)) (clear (conditions d (Show i)) e .1 .0)
 done-by d (Status i) e = refl
 done-by d (Log R i) e = refl
+done-by d Clears e = refl
 
-number-by : (o : Option ℕ) (s : State) (seat : ℕ) (c : Call) → firstOf (conditions (sideOf s seat) c) ≡ o → refusal (stepBy o s seat c .0) ≡ o
+number-by : (o : Option ℕ) (s : State) (seat : ℕ) (c : Call) → firstOf (ownConditions (sideOf s seat) c) ≡ o → refusal (stepBy o s seat c .0) ≡ o
 number-by (some n) s seat c e = refl
-number-by none s seat c e = done-by (sideOf s seat) c e
+number-by none s seat c e = done-by (sideOf s seat) c (own-none (sideOf s seat) c e .0)
 
 -- the number that a call answers is that of the first line that holds, and there is none where none holds
-pub numbered : (s : State) (seat : ℕ) (c : Call) → refusal (step s seat c .0) ≡ firstOf (conditions (sideOf s seat) c)
-numbered s seat c = number-by (firstOf (conditions (sideOf s seat) c)) s seat c refl
+pub numbered : (s : State) (seat : ℕ) (c : Call) → refusal (step s seat c .0) ≡ firstOf (ownConditions (sideOf s seat) c)
+numbered s seat c = number-by (firstOf (ownConditions (sideOf s seat) c)) s seat c refl
 
 -- a refused call leaves the state
 left-by : (o : Option ℕ) (s : State) (seat : ℕ) (c : Call) (n : ℕ) → o ≡ some n → stepBy o s seat c .1 ≡ s
 left-by (some m) s seat c n e = refl
 left-by none s seat c n e = let w : _≡_ {A = ℕ} 0 1 = cc in absurd (omega arith)
 
-pub left : (s : State) (seat : ℕ) (c : Call) (n : ℕ) → firstOf (conditions (sideOf s seat) c) ≡ some n → step s seat c .1 ≡ s
-left s seat c n e = left-by (firstOf (conditions (sideOf s seat) c)) s seat c n e
+pub left : (s : State) (seat : ℕ) (c : Call) (n : ℕ) → firstOf (ownConditions (sideOf s seat) c) ≡ some n → step s seat c .1 ≡ s
+left s seat c n e = left-by (firstOf (ownConditions (sideOf s seat) c)) s seat c n e
 
 -- ---- read
 

@@ -124,7 +124,7 @@ module _ (look look′ : ℕ → List ℕ) (n : ℕ) (agree : (p : ℕ) → p < 
       (eqb→eq k 0 (and-true (eqb k 0) (all isBlank bs) t′ .0), ap (λ (x : Block). readFrom look (x ∷ bs)) (z .0))
 
   -- a run of blocks before blank ones is as good before other blocks, and reads the same
-  run : (at k : ℕ) (tables : List Table) (front bl new : List Block) → 1 ≤ at → at + k + length front ≤ n → All (Below at) tables
+  pub run : (at k : ℕ) (tables : List Table) (front bl new : List Block) → 1 ≤ at → at + k + length front ≤ n → All (Below at) tables
       → T (all (λ b. not (isBlank b)) front) → All (λ (b : Block). b ≡ blank) bl
       → T (okFrom look at k tables (front ++ bl)) → T (okFrom look′ (at + k + length front) 0 (tablesAfter tables front) new)
       → T (okFrom look′ at k tables (front ++ new)) × (readFrom look′ (front ++ new) ≡ readFrom look (front ++ bl) ++ readFrom look′ new)

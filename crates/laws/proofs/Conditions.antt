@@ -12,7 +12,9 @@ use lib.Dec.{eqb, ltb}
 use lib.ListN.{length}
 use Rattle.model.specs.Calls.{sizeCondition}
 use Rattle.model.specs.History.{Bytes}
-use Rattle.model.specs.Refusals.{Clear, Condition, First, firstOf}
+use Rattle.model.specs.Machine.{Call, Commits, Side}
+use Rattle.model.specs.Refusals.{Clear, Condition, First, conditions, firstOf, tailConditions}
+use Rattle.model.specs.Run.{ownConditions}
 use Rattle.model.specs.Store.{blockCount}
 use Rattle.laws.proofs.Rows.{or-false}
 
@@ -33,9 +35,27 @@ pub clear-first : (cs ds : List Condition) → Clear cs → firstOf (cs ++ ds) �
 clear-first [] ds h = refl
 clear-first (c ∷ cs) ds h = ap (λ (b : Bool). cond b (some (c .number)) (firstOf (cs ++ ds))) (h .0) ∙ clear-first cs ds (h .1)
 
+-- nor do they in the middle
+pub clear-mid : (cs ds es : List Condition) → Clear ds → firstOf (cs ++ (ds ++ es)) ≡ firstOf (cs ++ es)
+clear-mid [] ds es h = clear-first ds es h
+clear-mid (c ∷ cs) ds es h = ap (λ (o : Option ℕ). cond (c .holds) (some (c .number)) o) (clear-mid cs ds es h)
+
 pub clear-split : (cs ds : List Condition) → Clear (cs ++ ds) → Clear cs × Clear ds
 clear-split [] ds h = (tt, h)
 clear-split (c ∷ cs) ds h = let r = clear-split cs ds (h .1) in ((h .0, r .0), r .1)
+
+-- where none of the machine's lines holds, none from 7 on does, and not 14
+pub own-none : (d : Side) (c : Call) → firstOf (ownConditions d c) ≡ none → (firstOf (conditions d c) ≡ none) × Clear (tailConditions d c)
+own-none d c e =
+    let p = clear-split (tailConditions d c) (conditions d c) (clear (ownConditions d c) e) in
+    (none-holds (conditions d c) (p .1), p .0)
+
+-- 14 does not hold of a commit on a store without a tail, and on no other
+pub no-tail : (d : Side) (stamp mask : ℕ) → d .tail ≡ 0 → Clear (tailConditions d (Commits stamp mask))
+no-tail d stamp mask e = (ap (λ (t : ℕ). not (eqb t 0)) e, tt)
+
+pub untailed-so : (d : Side) (stamp mask : ℕ) → Clear (tailConditions d (Commits stamp mask)) → d .tail ≡ 0
+untailed-so d stamp mask c = eqb-true (d .tail) 0 (not-false (eqb (d .tail) 0) (c .0))
 
 -- the number that `firstOf` gives is that of the first condition that holds
 pub first-iff : (cs : List Condition) (n : ℕ) → (firstOf cs ≡ some n) ↔ First cs n

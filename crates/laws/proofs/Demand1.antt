@@ -8,25 +8,25 @@ use mathlib.Core.Option.{Option, none, some}
 use mathlib.Core.Path.{_∙_, _≡_, ap, refl, subst, sym}
 use native.Mathlib.Omega.{arith}
 use lib.ListN.{replicate}
-use Rattle.model.specs.Calls.{Out, answerBy, bothConditions, call, changeBy, changeCall, conditionsIn, createBy, createCopy, createCopyConditions, createStore, foundPlace, freshCopy, freshStore, heard, logCall, out, ownPlace, placeBy, readCall, readPlace, refusalOf, showPlace, sideIn, sizeCondition, statusCall, storeConditions, storeOnlyConditions, storeRefusal, storeSide}
-use Rattle.model.specs.Demand1.{Demand1, DoneOn, Refuses}
+use Rattle.model.specs.Calls.{Out, answerBy, bothConditions, call, changeBy, changeCall, clearCall, conditionsIn, createBy, createCopy, createCopyConditions, createStore, foundPlace, freshCopy, freshStore, heard, logCall, out, ownPlace, placeBy, readCall, readPlace, refusalOf, showPlace, sideIn, sizeCondition, statusCall, storeConditions, storeOnlyConditions, storeRefusal, storeSide}
+use Rattle.model.specs.Demand1.{Cleared, Demand1, DoneOn, Refuses}
 use Rattle.model.specs.Entry.{empty, ownBytes}
 use Rattle.model.specs.Fitting.{FitsEntry}
 use Rattle.model.specs.History.{Bytes, last}
-use Rattle.model.specs.Machine.{Add, Answer, Call, Commits, Copy, Delete, Edit, Log, Move, Read, Revert, Show, Side, Status, Update, doing, done, entry, refusal, refused}
-use Rattle.model.specs.Refusals.{Clear, Condition, First, conditions, firstOf}
-use Rattle.model.specs.Run.{Typed, sideBy, sideStep}
+use Rattle.model.specs.Machine.{Add, Answer, Call, Clears, Commits, Copy, Delete, Edit, Log, Move, Read, Revert, Show, Side, Status, Update, doing, done, entry, refusal, refused}
+use Rattle.model.specs.Refusals.{Clear, Condition, First, conditions, firstOf, tailConditions}
+use Rattle.model.specs.Run.{Typed, ownConditions, sideBy, sideStep}
 use Rattle.model.specs.Shows.{Accepted, Seen}
-use Rattle.model.specs.Store.{blockCount, storeHistory}
+use Rattle.model.specs.Store.{bareOf, blockCount, storeHistory}
 use Rattle.laws.proofs.Accepted.{accepted-call, clear-accepted}
-use Rattle.laws.proofs.Conditions.{clear-split, first-iff, none-holds}
+use Rattle.laws.proofs.Conditions.{clear-first, clear-split, first-iff, none-holds}
 use Rattle.laws.proofs.Demand2.{laid-copy}
 use Rattle.laws.proofs.Fresh.{fresh-copy}
 use Rattle.laws.proofs.Rows.{replicate-any}
 
 -- a call whose first line that holds has the number n
 pub refused-leaves : (store copy : Bytes) (c : Call) (n : ℕ) → firstOf (conditionsIn store copy c) ≡ some n → call store copy c ≡ out (refused n) store copy
-unfolding changeCall readPlace showPlace statusCall logCall refusalOf storeRefusal
+unfolding changeCall clearCall readPlace showPlace statusCall logCall refusalOf storeRefusal
 refused-leaves store copy (Add i x) n e = ap (λ (o : Option ℕ). changeBy o store copy (Add i x)) e
 refused-leaves store copy (Edit i x) n e = ap (λ (o : Option ℕ). changeBy o store copy (Edit i x)) e
 refused-leaves store copy (Delete i) n e = ap (λ (o : Option ℕ). changeBy o store copy (Delete i)) e
@@ -41,6 +41,7 @@ refused-leaves store copy (Show i) n e =
     ap (λ (o : Option ℕ). out (heard store copy (placeBy o (ownPlace (ownBytes (entry (sideIn store copy) i)) i (foundPlace store (last (storeHistory store)) i)))) store copy) e
 refused-leaves store copy (Status i) n e = ap (λ (o : Option ℕ). out (answerBy o (doing (sideIn store copy) (Status i) .0)) store copy) e
 refused-leaves store copy (Log R i) n e = ap (λ (o : Option ℕ). out (answerBy o (doing (storeSide store) (Log R i) .0)) store copy) e
+refused-leaves store copy Clears n e = ap (λ (o : Option ℕ). out (createBy o store (bareOf store) .says) (createBy o store (bareOf store) .buffer) copy) e
 
 own-heard : (store copy : Bytes) (o : Option Bytes) (i R : ℕ) → refusal (heard store copy (ownPlace o i (foundPlace store R i))) ≡ none
 own-heard store copy none i R = refl
@@ -48,7 +49,7 @@ own-heard store copy (some x) i R = refl
 
 -- a call of which no line holds
 pub unrefused-answers : (store copy : Bytes) (c : Call) → firstOf (conditionsIn store copy c) ≡ none → refusal (call store copy c .says) ≡ none
-unfolding changeCall readPlace showPlace statusCall logCall refusalOf storeRefusal
+unfolding changeCall clearCall readPlace showPlace statusCall logCall refusalOf storeRefusal
 unrefused-answers store copy (Add i x) e = ap (λ (o : Option ℕ). refusal (changeBy o store copy (Add i x) .says)) e
 unrefused-answers store copy (Edit i x) e = ap (λ (o : Option ℕ). refusal (changeBy o store copy (Edit i x) .says)) e
 unrefused-answers store copy (Delete i) e = ap (λ (o : Option ℕ). refusal (changeBy o store copy (Delete i) .says)) e
@@ -63,6 +64,7 @@ unrefused-answers store copy (Show i) e =
     ∙ own-heard store copy (ownBytes (entry (sideIn store copy) i)) i (last (storeHistory store))
 unrefused-answers store copy (Status i) e = ap (λ (o : Option ℕ). refusal (answerBy o (doing (sideIn store copy) (Status i) .0))) e
 unrefused-answers store copy (Log R i) e = ap (λ (o : Option ℕ). refusal (answerBy o (doing (storeSide store) (Log R i) .0))) e
+unrefused-answers store copy Clears e = ap (λ (o : Option ℕ). refusal (createBy o store (bareOf store) .says)) e
 
 -- the number that a call answers is that of the first line that holds, and there is none where none holds
 pub numbered-call : (store copy : Bytes) (c : Call) → refusal (call store copy c .says) ≡ firstOf (conditionsIn store copy c)
@@ -88,7 +90,9 @@ module _ (store copy : Bytes) where
   does c ty h =
       let q = clear-accepted store copy c h in
       let r = accepted-call store copy (q .0) c ty in
-      let e : sideStep (sideIn store copy) c ≡ doing (sideIn store copy) c = ap (λ (o : Option ℕ). sideBy o (sideIn store copy) c) (none-holds (conditions (sideIn store copy) c) (q .1)) in
+      let d : Side = sideIn store copy in
+      let own : firstOf (ownConditions d c) ≡ none = clear-first (tailConditions d c) (conditions d c) (q .1) ∙ none-holds (conditions d c) (q .2) in
+      let e : sideStep (sideIn store copy) c ≡ doing (sideIn store copy) c = ap (λ (o : Option ℕ). sideBy o (sideIn store copy) c) own in
       record { says = r .0 ∙ ap (λ (x : Answer × Side). x .0) e; holds = subst (λ (x : Answer × Side). Seen (blockCount store) (call store copy c .store) (call store copy c .copy) (x .1)) e (r .1) }
 
   -- a store that is accepted, is so with a fresh copy
@@ -111,6 +115,12 @@ module _ (store copy : Bytes) where
       let d : Side = sideIn store (freshCopy 1) in
       accepted-call store (freshCopy 1) (fresh-accepted (p .0)) (Log R i) tt .0
       ∙ ap (λ (o : Option ℕ). sideBy o d (Log R i) .0) (none-holds (conditions d (Log R i)) (p .1))
+
+  clears : Clear (storeConditions store) → Cleared store (clearCall store)
+  unfolding clearCall storeRefusal
+  clears h =
+      let r = accepted-call store (freshCopy 1) (fresh-accepted h) Clears tt in
+      record { says = r .0; holds = r .1 .stored }
 
 -- create
 module _ (old new : Bytes) where
@@ -138,6 +148,7 @@ demand-one store copy = record {
   does = does store copy;
   reads = λ R i h. ap (λ (a : Answer). out a store copy) (reads store copy R i h);
   logs = λ R i h. ap (λ (a : Answer). out a store copy) (logs store copy R i h);
+  clears = clears store copy;
   store-numbered = create-first store (freshStore (blockCount store)) (sizeCondition store ∷ []);
   store-stays = create-stays store (freshStore (blockCount store)) (firstOf (sizeCondition store ∷ []));
   store-made = create-made store (freshStore (blockCount store)) (sizeCondition store ∷ []);

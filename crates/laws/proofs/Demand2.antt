@@ -17,12 +17,12 @@ use Rattle.model.specs.Fitting.{FitsEntry, FitsRows, Has, fitsEntry, fitsStore,
 use Rattle.model.specs.History.{Bytes, History, last, present, sheet}
 use Rattle.model.specs.Refusals.{firstOf}
 use Rattle.model.specs.Rows.{some-row}
-use Rattle.model.specs.Store.{blockCount, storeHistory}
+use Rattle.model.specs.Store.{blockCount, storeHistory, tailOf, usedOf}
 use Rattle.model.specs.WorkCopy.{HoldsCopy, copyOk, entriesOf, seatOf}
 use Rattle.laws.proofs.Accepted.{both}
 use Rattle.laws.proofs.Conditions.{clear, none-holds, sized-so}
 use Rattle.laws.proofs.Rows.{is-T, no-row, no-rows}
-use Rattle.laws.proofs.Store.{clear-held, history-held, taken-holds}
+use Rattle.laws.proofs.Store.{clear-held, history-held, tail-held, taken-tailed, used-held}
 use Rattle.laws.proofs.WorkCopy.{copy-holds, holds-copy}
 use Rattle.laws.proofs.Writing.{is-some}
 
@@ -31,12 +31,17 @@ use Rattle.laws.proofs.Writing.{is-some}
 store-laid : (store : Bytes) → firstOf (storeConditions store) ≡ none → LaidStore store (storeHistory store)
 store-laid store e =
     let q = sized-so store (clear (storeConditions store) e .0) in
-    record { count = blockCount store; few = q .1; many = q .2; holds = taken-holds store e }
+    record { count = blockCount store; few = q .1; many = q .2; used = usedOf store; tail = tailOf store; holds = taken-tailed store e }
 
-laid-store : (store : Bytes) (h : History) → LaidStore store h → (firstOf (storeConditions store) ≡ none) × (storeHistory store ≡ h)
+laid-store : (store : Bytes) (h : History) (L : LaidStore store h)
+    → (firstOf (storeConditions store) ≡ none) × ((storeHistory store ≡ h) × (usedOf store ≡ L .used) × (tailOf store ≡ L .tail))
 laid-store store h L = (
-  none-holds (storeConditions store) (clear-held (L .count) store h (L .holds) (L .few) (L .many)),
-  history-held (L .count) store h (L .holds),
+  none-holds (storeConditions store) (clear-held (L .count) store h (L .used) (L .tail) (L .holds) (L .few) (L .many)),
+  (
+    history-held (L .count) store h (L .used) (L .tail) (L .holds),
+    used-held (L .count) store h (L .used) (L .tail) (L .holds),
+    tail-held (L .count) store h (L .used) (L .tail) (L .holds),
+  ),
 )
 
 -- ---- the copy

@@ -16,10 +16,12 @@ use Rattle.model.specs.Entry.{empty}
 use Rattle.model.specs.History.{Bytes}
 use Rattle.model.specs.Layout.{Lays, LaysFrom}
 use Rattle.model.specs.Machine.{done, fresh}
-use Rattle.model.specs.Shows.{Shows, Stored}
+use Rattle.model.specs.Shows.{Shows}
+use Rattle.model.specs.Tail.{Stored}
 use Rattle.model.specs.Store.{Holds, blockCount, blocksOf, front}
 use Rattle.model.specs.WorkCopy.{FitsCopyBlock, HoldsCopy, entryBlock}
 use Rattle.laws.proofs.Conditions.{so-sized}
+use Rattle.laws.proofs.Store.{stored-tailed}
 use Rattle.laws.proofs.WorkCopy.{copy-bytes}
 use Rattle.laws.proofs.Writing.{blocks-back, front-none}
 
@@ -58,7 +60,7 @@ fresh-copy k lo hi = copy-bytes k (replicate 32 empty) refl lo hi (empties 32)
     empties (suc n) = (tt, empties n)
 
 pub fresh-shows : (N : ℕ) → 2 ≤ N → N ≤ 4_096 → Shows N (freshBuffers N) (fresh N)
-fresh-shows N lo hi = record { few = lo; many = hi; blocks = refl; store = fresh-stored N (omega arith); four = refl; copies = each }
+fresh-shows N lo hi = record { few = lo; many = hi; blocks = refl; store = stored-tailed N (freshStore N) [] 1 (fresh-stored N (omega arith)); four = refl; copies = each }
   where
     each : (k : ℕ) → k < 4 → HoldsCopy (getD (freshBuffers N .copies) k []) (suc k) (getD (fresh N .seats) k [])
     each zero lt = fresh-copy 1 (omega arith) (omega arith)

@@ -13,11 +13,11 @@ use Rattle.block.specs.Lists.{All}
 use Rattle.model.specs.Entry.{Entry, added, changeFor, copied, deleted, empty, modified, normal, pending}
 use Rattle.model.specs.History.{Bytes, Change, Commit, History, add, change, changeOf, copy, delete, isBytes, last, made, namedAfter, namer, names, newest, nothing, present, sheet}
 use Rattle.model.specs.Invariant.{Base, FitsAt, Kept, Made, Right, Short, Sound, usedBy}
-use Rattle.model.specs.Machine.{Add, Call, Commits, Copy, Delete, Edit, Log, Move, Read, Revert, Show, Side, State, Status, Update, agreed, asIn, blocksFor, chosen, commitChanges, committing, copyOf, count, doing, edited, entry, fresh, newCommit, orElse, put, removed, revertedOf, sameNamer, settled, sideOf, updatedTo, withEntries, withEntry}
+use Rattle.model.specs.Machine.{Add, Call, Clears, Commits, Copy, Delete, Edit, Log, Move, Read, Revert, Show, Side, State, Status, Update, agreed, asIn, blocksFor, chosen, commitChanges, committing, copyOf, count, doing, edited, entry, fresh, newCommit, orElse, put, removed, revertedOf, sameNamer, settled, sideOf, updatedTo, withEntries, withEntry}
 use Rattle.model.specs.Refusals.{conditions, firstOf, noSheet, outOfDate, tooLate}
 use Rattle.model.specs.Rows.{rows, some-row, total}
-use Rattle.model.specs.Run.{AllValid, Turn, Typed, Valid, run, step, stepBy}
-use Rattle.laws.proofs.Conditions.{clear}
+use Rattle.model.specs.Run.{AllValid, Turn, Typed, Valid, run, step, stepBy, ownConditions}
+use Rattle.laws.proofs.Conditions.{clear, own-none}
 use Rattle.laws.proofs.Rows.{and-false, and-nothing, cond-any, cond-same, length-rows, no-row, or-false, replicate-any, rows-any, rows-get, set-any}
 use Rattle.laws.proofs.Trees.{Small, Wide, base-grown, has-bytes, same-namer, sheet-made, sheet-zero, small-tree, sound-grown, unnamed, used-grown}
 
@@ -270,6 +270,7 @@ kept-doing d (Read R i) e lo hi ty K = K
 kept-doing d (Show i) e lo hi ty K = K
 kept-doing d (Status i) e lo hi ty K = K
 kept-doing d (Log R i) e lo hi ty K = K
+kept-doing d Clears e lo hi ty K = record { sound = K .sound; fits = K .fits; wide = K .wide; used = K .used; room = K .room }
 
 -- a call leaves the block count, and leaves the history or lengthens it by the commit that it asks for
 pub fits-still : (d : Side) (c : Call) → firstOf (conditions d c) ≡ none → (i : ℕ) (e : Entry) → FitsAt (d .history) i e → FitsAt (doing d c .1 .history) i e
@@ -285,6 +286,7 @@ fits-still d (Read R i) n j e f = f
 fits-still d (Show i) n j e f = f
 fits-still d (Status i) n j e f = f
 fits-still d (Log R i) n j e f = f
+fits-still d Clears n j e f = f
 
 -- ---- a step, and a list of calls
 
@@ -303,13 +305,14 @@ kept-put s k d K D still = record {
   room = D .room;
 }
 
-kept-by : (o : Option ℕ) (s : State) (k : ℕ) (c : Call) → firstOf (conditions (sideOf s k) c) ≡ o → 1 ≤ k → k ≤ 4 → Typed c → Kept s → Kept (stepBy o s k c .1)
+kept-by : (o : Option ℕ) (s : State) (k : ℕ) (c : Call) → firstOf (ownConditions (sideOf s k) c) ≡ o → 1 ≤ k → k ≤ 4 → Typed c → Kept s → Kept (stepBy o s k c .1)
 kept-by (some n) s k c e lo hi ty K = K
 kept-by none s k c e lo hi ty K =
-    kept-put s k (doing (sideOf s k) c .1) K (kept-doing (sideOf s k) c e lo hi ty (kept-side s k K lo hi)) (fits-still (sideOf s k) c e)
+    let q = own-none (sideOf s k) c e .0 in
+    kept-put s k (doing (sideOf s k) c .1) K (kept-doing (sideOf s k) c q lo hi ty (kept-side s k K lo hi)) (fits-still (sideOf s k) c q)
 
 pub kept-step : (s : State) (t : Turn) → Valid t → Kept s → Kept (step s (t .by) (t .call) .1)
-kept-step s t v K = kept-by (firstOf (conditions (sideOf s (t .by)) (t .call))) s (t .by) (t .call) refl (v .low) (v .high) (v .typed) K
+kept-step s t v K = kept-by (firstOf (ownConditions (sideOf s (t .by)) (t .call))) s (t .by) (t .call) refl (v .low) (v .high) (v .typed) K
 
 pub kept-run : (s : State) (ts : List Turn) → AllValid ts → Kept s → Kept (run s ts)
 kept-run s [] v K = K

@@ -6,9 +6,9 @@ use mathlib.Core.List.{List, [], _++_, _∷_, append-assoc, append-nil}
 use mathlib.Core.Option.{Option, none, some}
 use mathlib.Core.Path.{_∙_, _≡_, ap, refl, sym}
 use Rattle.model.specs.History.{Bytes, History, last, sheet}
-use Rattle.model.specs.Machine.{Add, Call, Commits, Copy, Delete, Edit, Log, Move, Read, Revert, Show, State, Status, Update, asBytes, fresh, sideOf}
-use Rattle.model.specs.Refusals.{conditions, firstOf}
-use Rattle.model.specs.Run.{Turn, accepted, asked, isRevision, run, step, stepBy}
+use Rattle.model.specs.Machine.{Add, Call, Clears, Commits, Copy, Delete, Edit, Log, Move, Read, Revert, Show, State, Status, Update, asBytes, fresh, sideOf}
+use Rattle.model.specs.Refusals.{firstOf}
+use Rattle.model.specs.Run.{Turn, accepted, asked, isRevision, run, step, stepBy, ownConditions}
 use Rattle.laws.proofs.Trees.{sheet-grown}
 
 -- read and show answer no revision
@@ -31,6 +31,7 @@ grown-by none s k (Read R i) = rw not-revision (sym (append-nil (s .history)))
 grown-by none s k (Show i) = rw not-revision (sym (append-nil (s .history)))
 grown-by none s k (Status i) = sym (append-nil (s .history))
 grown-by none s k (Log R i) = sym (append-nil (s .history))
+grown-by none s k Clears = sym (append-nil (s .history))
 
 -- the history only grows, at its end, by the accepted commits
 pub run-grows : (s : State) (ts : List Turn) → run s ts .history ≡ s .history ++ accepted s ts
@@ -39,7 +40,7 @@ run-grows s (t ∷ ts) =
     let s′ : State = step s (t .by) (t .call) .1 in
     let new : History = cond (isRevision (step s (t .by) (t .call) .0)) (asked (sideOf s (t .by)) (t .call)) [] in
     run-grows s′ ts
-    ∙ ap (λ (h : History). h ++ accepted s′ ts) (grown-by (firstOf (conditions (sideOf s (t .by)) (t .call))) s (t .by) (t .call))
+    ∙ ap (λ (h : History). h ++ accepted s′ ts) (grown-by (firstOf (ownConditions (sideOf s (t .by)) (t .call))) s (t .by) (t .call))
     ∙ append-assoc (s .history) new (accepted s′ ts)
 
 run-append : (s : State) (ts us : List Turn) → run s (ts ++ us) ≡ run (run s ts) us

@@ -12,26 +12,27 @@ use lib.ListN.{drop, getD, length, length-append, replicate, take}
 use lib.Seq.{take-at}
 use Rattle.block.specs.Lists.{All}
 use Rattle.model.specs.Blocks.{Block, blank, commit, content, fieldsOf}
-use Rattle.model.specs.Calls.{Buffers, afterTurn, bothConditions, call, changeBy, changeCall, commitCall, freshBuffers, freshCopy, freshStore, refusalOf, runOn, sideIn, storeConditions, storeWith}
+use Rattle.model.specs.Calls.{Buffers, afterTurn, bothConditions, call, changeBy, changeCall, clearCall, commitCall, createBy, freshBuffers, freshCopy, freshStore, refusalOf, runOn, sideIn, storeConditions, storeRefusal, storeWith}
 use Rattle.model.specs.Codec.{joined}
 use Rattle.model.specs.Demand2.{LaidStore}
 use Rattle.model.specs.History.{Bytes, Commit, History, last, namer, noCommit, sheet}
 use Rattle.model.specs.Invariant.{Kept, Made, takes}
 use Rattle.model.specs.Layout.{Lays, Table}
-use Rattle.model.specs.Machine.{Add, Answer, Call, Commits, Copy, Delete, Edit, Log, Move, Read, Revert, Show, Side, State, Status, Update, blocksFor, fresh, newCommit, revision, sideOf}
+use Rattle.model.specs.Machine.{Add, Answer, Call, Clears, Commits, Copy, Delete, Edit, Log, Move, Read, Revert, Show, Side, State, Status, Update, blocksFor, doing, fresh, newCommit, revision, sideOf}
 use Rattle.model.specs.Order.{commitBlocks, commitsBlocks, contentsAfter, continued, filled, linesAfter, storeBytes}
 use Rattle.model.specs.Ordered.{Appends, Ordered, ReadAs}
 use Rattle.model.specs.Pass.{grown, tablesAfter, tablesOf}
 use Rattle.model.specs.Refusals.{conditions, firstOf, noSheet, tooLate}
-use Rattle.model.specs.Run.{AllValid, Turn, Typed, accepted, asked, isRevision, run, sideBy, sideStep, step}
-use Rattle.model.specs.Shows.{Accepted, Seen, Shows, Stored, stateIn}
-use Rattle.model.specs.Store.{Holds, blanks, blockCount, blocksOf, front, storeBlocks, storeHistory, usedOf}
+use Rattle.model.specs.Run.{AllValid, Turn, Typed, accepted, asked, isRevision, ownConditions, run, sideBy, sideStep, step, stepBy}
+use Rattle.model.specs.Shows.{Accepted, Seen, Shows, stateIn}
+use Rattle.model.specs.Store.{bareOf, blanks, blockCount, blocksOf, front, storeBlocks, storeHistory, tailOf, usedOf}
+use Rattle.model.specs.Tail.{Stored, Tailed}
 use Rattle.model.specs.Writing.{newContents, withCommit}
 use Rattle.laws.proofs.Acceptance.{lays-accepted}
 use Rattle.laws.proofs.Accepted.{accepted-call, accepted-kept, accepted-seen, clear-accepted, seats}
 use Rattle.laws.proofs.All.{all-drop}
 use Rattle.laws.proofs.Answers.{read-side}
-use Rattle.laws.proofs.Conditions.{clear, none-holds}
+use Rattle.laws.proofs.Conditions.{clear, none-holds, own-none, untailed-so}
 use Rattle.laws.proofs.Demand1.{fresh-accepted}
 use Rattle.laws.proofs.Demand2.{demand-two}
 use Rattle.laws.proofs.Demand3.{whole}
@@ -42,7 +43,8 @@ use Rattle.laws.proofs.Order.{laid-in-order, tables-after, written-orde
 use Rattle.laws.proofs.Parts.{joined-append}
 use Rattle.laws.proofs.Replaying.{accepted-shows, accepted-state}
 use Rattle.laws.proofs.Steps.{one-step, same-refusal, same-side, seen-seat, step-side}
-use Rattle.laws.proofs.Store.{count-held, history-held}
+use Rattle.laws.proofs.Store.{bare-held, bare-stored, count-held, history-held, stored-tailed, tail-held, tailed-none, tailed-stored}
+use Rattle.laws.proofs.Tailing.{front-is}
 use Rattle.laws.proofs.Trees.{used-low}
 use Rattle.laws.proofs.WorkCopy.{length-joined}
 use Rattle.laws.proofs.Writing.{Blocks, blank-rest, front-blanks, holds-blocks, stored-commit, tables-used, written-back, written-front}
@@ -57,21 +59,20 @@ blanks-only : (bl : List Block) → All (λ (b : Block). b ≡ blank) bl → rep
 blanks-only [] a = refl
 blanks-only (b ∷ bl) a = ap₂ _∷_ (sym (a .0)) (blanks-only bl (a .1))
 
-module _ (N : ℕ) (store : Bytes) (h : History) (H : Holds N store h) where
+module _ (N : ℕ) (store : Bytes) (h : History) (used t : ℕ) (X : Tailed N store h used t) where
   abbrev bs : List Block
-  bs = blocksOf N store
+  bs = blocksOf N (X .bare)
 
-  known : Blocks N store h bs
-  known = holds-blocks N store h H
+  known : Blocks N (X .bare) h bs
+  known = holds-blocks N (X .bare) h (X .stored .holds)
 
   same-blocks : storeBlocks store ≡ bs
-  same-blocks = ap (λ (n : ℕ). blocksOf n store) (count-held N store h H)
+  same-blocks = ap₂ blocksOf (count-held N store h used t X) (bare-held N store h used t X)
 
   used-bytes : take (512 * length (front bs)) store ≡ joined fieldsOf (front bs)
   used-bytes =
       let n : length (joined fieldsOf (front bs)) ≡ 512 * length (front bs) = (let e = length-joined fieldsOf (front bs) in omega (arith, e)) in
-      ap (take (512 * length (front bs))) (sym (known .bytes) ∙ ap (joined fieldsOf) (sym (front-blanks bs)) ∙ joined-append fieldsOf (front bs) (blanks bs))
-      ∙ take-at (joined fieldsOf (front bs)) (joined fieldsOf (blanks bs)) (512 * length (front bs)) n
+      ap (take (512 * length (front bs))) (front-is N store h used t X) ∙ take-at (joined fieldsOf (front bs)) _ (512 * length (front bs)) n
 
   continued-is : (g : History) → continued store g ≡ joined fieldsOf (further N h (front bs) g)
   unfolding continued
@@ -79,7 +80,7 @@ module _ (N : ℕ) (store : Bytes) (h : History) (H : Holds N store h) where
       let put : ℕ → History → List Block → List Table → Bytes =
       λ n k xs ts. take (512 * length (front xs)) store ++ joined fieldsOf (filled (n - length (front xs)) (commitsBlocks k ts (length (front xs)) g)) in
       let more : List Block = filled (N - length (front bs)) (commitsBlocks h (tablesOf (front bs)) (length (front bs)) g) in
-      ap₂ (λ (n : ℕ) (k : History). put n k (storeBlocks store) (tablesOf (storeBlocks store))) (count-held N store h H) (history-held N store h H)
+      ap₂ (λ (n : ℕ) (k : History). put n k (storeBlocks store) (tablesOf (storeBlocks store))) (count-held N store h used t X) (history-held N store h used t X)
       ∙ ap (λ (xs : List Block). put N h xs (tablesOf xs)) same-blocks
       ∙ ap (put N h bs) (sym (tables-used bs h (known .lays)))
       ∙ ap (λ (x : Bytes). x ++ joined fieldsOf more) used-bytes
@@ -96,8 +97,8 @@ module _ (N : ℕ) (store : Bytes) (h : History) (H : Holds N store h) where
       let l : length first ≡ 512 * usedOf store = ap (λ (m : ℕ). length (take (512 * m) store)) e ∙ ap length used-bytes ∙ omega (arith, n, e) in
       take-at first (joined fieldsOf more) (512 * usedOf store) l
 
-  -- with no commit added it is as it was
-  continued-none : continued store [] ≡ store
+  -- with no commit added it is as it was, without its tail
+  continued-none : continued store [] ≡ X .bare
   continued-none =
       let l : length (front bs) + length (blanks bs) ≡ N = sym (length-append (front bs) (blanks bs)) ∙ ap length (front-blanks bs) ∙ known .count in
       let n : N - length (front bs) - 0 ≡ length (blanks bs) = omega arith in
@@ -106,6 +107,23 @@ module _ (N : ℕ) (store : Bytes) (h : History) (H : Holds N store h) where
       ∙ ap (λ (bl : List Block). joined fieldsOf (front bs ++ bl)) (blanks-only (blanks bs) (blank-rest bs (lays-accepted bs h (known .lays) .0)))
       ∙ ap (joined fieldsOf) (front-blanks bs)
       ∙ known .bytes
+
+-- of a store without a tail
+module _ (N : ℕ) (store : Bytes) (h : History) (used : ℕ) (S : Stored N store h used) where
+  abbrev plain : Tailed N store h used 0
+  plain = stored-tailed N store h used S
+
+  untailed : plain .bare ≡ store
+  untailed = tailed-none N store h used plain
+
+  stored-is : (g : History) → continued store g ≡ joined fieldsOf (further N h (front (blocksOf N store)) g)
+  stored-is g = continued-is N store h used 0 plain g ∙ ap (λ (l : Bytes). joined fieldsOf (further N h (front (blocksOf N l)) g)) untailed
+
+  stored-blocks : storeBlocks store ≡ blocksOf N store
+  stored-blocks = same-blocks N store h used 0 plain ∙ ap (blocksOf N) untailed
+
+  stored-none : continued store [] ≡ store
+  stored-none = continued-none N store h used 0 plain ∙ untailed
 
 -- ---- one commit more
 
@@ -153,7 +171,7 @@ module _ (N : ℕ) (store : Bytes) (h : History) (used : ℕ) (c : Commit) (many
     rest = drop (suc (length (newContents (front old) (blanks old) c))) (blanks old)
 
     blocks-behind : storeBlocks store′ ≡ front old ++ (commitBlocks h (tablesOf (front old)) (length (front old)) c ++ rest)
-    blocks-behind = same-blocks N store′ (h ++ (c ∷ [])) (stored .holds) ∙ blocks-now ∙ ap (λ (l : List Block). front old ++ l) (written-ordered old h c (was .lays) M rest)
+    blocks-behind = stored-blocks N store′ (h ++ (c ∷ [])) (used + blocksFor h (c .changes)) stored ∙ blocks-now ∙ ap (λ (l : List Block). front old ++ l) (written-ordered old h c (was .lays) M rest)
 
     blank-behind : All (λ (b : Block). b ≡ blank) rest
     blank-behind =
@@ -168,27 +186,39 @@ module _ (N : ℕ) (store : Bytes) (h : History) (used : ℕ) (c : Commit) (many
     -- the commits g after the commit c that is written are c and g after what was there
     continued-on : (g : History) → continued store′ g ≡ continued store (c ∷ g)
     continued-on g =
-        continued-is N store′ (h ++ (c ∷ [])) (stored .holds) g
+        stored-is N store′ (h ++ (c ∷ [])) (used + blocksFor h (c .changes)) stored g
         ∙ ap (λ (f : List Block). joined fieldsOf (further N (h ++ (c ∷ [])) f g)) front-now
         ∙ ap (joined fieldsOf) (further-on N h c (front old) g (tables-after old h c (was .lays)))
-        ∙ sym (continued-is N store h (S .holds) (c ∷ g))
+        ∙ sym (stored-is N store h used S (c ∷ g))
 
 -- ---- one call
 
--- a commit by a seat, on buffers in which the side d is found
+-- a call by a seat, on buffers in which the side d is found
 module _ (N : ℕ) (store copy : Bytes) (d : Side) (E : Seen N store copy d) (K : KeptSide d) (lo : 1 ≤ d .seat) (hi : d .seat ≤ 4) where
-  module _ (stamp mask : ℕ) (small : stamp < 2 ^ 32) (e : firstOf (conditions d (Commits stamp mask)) ≡ none) where
+  -- a commit that no line refuses: there is no tail
+  module _ (stamp mask : ℕ) (small : stamp < 2 ^ 32) (e : firstOf (ownConditions d (Commits stamp mask)) ≡ none) where
     abbrev new : Commit
     new = newCommit d stamp mask
 
     abbrev C : Committable d stamp mask
-    C = committable d stamp mask e lo hi small
+    C = committable d stamp mask (own-none d (Commits stamp mask) e .0) lo hi small
+
+    abbrev S : Stored N store (d .history) (d .used)
+    S = tailed-stored N store (d .history) (d .used) (d .tail) (untailed-so d stamp mask (own-none d (Commits stamp mask) e .1)) (E .stored)
 
     continued-commit : (g : History) → continued (storeWith store (new ∷ [])) g ≡ continued store (new ∷ g)
     continued-commit g =
-        ap (λ (n : ℕ). continued (joined fieldsOf (withCommit (blocksOf n store) new)) g) (count-held N store (d .history) (E .stored .holds))
-        ∙ continued-on N store (d .history) (d .used) new (E .many) (omega (arith, used-low (d .history), K .used, K .room, E .blocks, E .many)) (E .stored)
+        ap (λ (l : List Block). continued (joined fieldsOf (withCommit l new)) g) (stored-blocks N store (d .history) (d .used) S)
+        ∙ continued-on N store (d .history) (d .used) new (E .many) (omega (arith, used-low (d .history), K .used, K .room, E .blocks, E .many)) S
         (made-commit d stamp mask K C) (omega (arith, C .room, E .blocks)) g
+
+  -- clearing: the tail is none of the used blocks
+  continued-cleared : (g : History) → continued (bareOf store) g ≡ continued store g
+  continued-cleared g =
+      let X : Tailed N store (d .history) (d .used) (d .tail) = E .stored in
+      ap (λ (l : Bytes). continued l g) (bare-held N store (d .history) (d .used) (d .tail) X)
+      ∙ stored-is N (X .bare) (d .history) (d .used) (X .stored) g
+      ∙ sym (continued-is N store (d .history) (d .used) (d .tail) X g)
 
   -- what any call adds: nothing, or the commit that it asks for
   abbrev Adds : Bytes → Bool → List Commit → History → Type 0
@@ -202,14 +232,18 @@ module _ (N : ℕ) (store copy : Bytes) (d : Side) (E : Seen N store copy d) (K 
   still-by (some n) c q t g = adds-none t g
   still-by none c q t g = ap (λ (l : List Commit). continued (storeWith store l) g) (q (sideIn store copy)) ∙ adds-none t g
 
-  commit-by : (o : Option ℕ) (stamp mask : ℕ) → stamp < 2 ^ 32 → firstOf (conditions d (Commits stamp mask)) ≡ o → (g : History)
+  commit-by : (o : Option ℕ) (stamp mask : ℕ) → stamp < 2 ^ 32 → firstOf (ownConditions d (Commits stamp mask)) ≡ o → (g : History)
       → Adds (changeBy o store copy (Commits stamp mask) .store) (isRevision (sideBy o d (Commits stamp mask) .0)) (newCommit d stamp mask ∷ []) g
   commit-by (some n) stamp mask small e g = refl
   commit-by none stamp mask small e g =
       ap (λ (x : Side). continued (storeWith store (newCommit x stamp mask ∷ [])) g) (same-side N store copy d E K lo hi) ∙ continued-commit stamp mask small e g
 
+  clear-by : (o : Option ℕ) (t : Bool) (g : History) → Adds (createBy o store (bareOf store) .buffer) t [] g
+  clear-by (some n) t g = adds-none t g
+  clear-by none t g = continued-cleared g ∙ adds-none t g
+
   call-adds : (c : Call) → Typed c → (g : History) → Adds (call store copy c .store) (isRevision (sideStep d c .0)) (asked d c) g
-  unfolding changeCall
+  unfolding changeCall clearCall
   call-adds (Add i x) ty g = still-by (refusalOf store copy (Add i x)) (Add i x) (λ y. refl) (isRevision (sideStep d (Add i x) .0)) g
   call-adds (Edit i x) ty g = still-by (refusalOf store copy (Edit i x)) (Edit i x) (λ y. refl) (isRevision (sideStep d (Edit i x) .0)) g
   call-adds (Delete i) ty g = still-by (refusalOf store copy (Delete i)) (Delete i) (λ y. refl) (isRevision (sideStep d (Delete i) .0)) g
@@ -217,18 +251,19 @@ module _ (N : ℕ) (store copy : Bytes) (d : Side) (E : Seen N store copy d) (K 
   call-adds (Move i j) ty g = still-by (refusalOf store copy (Move i j)) (Move i j) (λ y. refl) (isRevision (sideStep d (Move i j) .0)) g
   call-adds (Commits stamp mask) ty g =
       ap (λ (o : Option ℕ). continued (changeBy o store copy (Commits stamp mask) .store) g) (same-refusal N store copy d E K lo hi (Commits stamp mask))
-      ∙ commit-by (firstOf (conditions d (Commits stamp mask))) stamp mask ty refl g
+      ∙ commit-by (firstOf (ownConditions d (Commits stamp mask))) stamp mask ty refl g
   call-adds (Update mask R) ty g = still-by (refusalOf store copy (Update mask R)) (Update mask R) (λ y. refl) (isRevision (sideStep d (Update mask R) .0)) g
   call-adds (Revert mask) ty g = still-by (refusalOf store copy (Revert mask)) (Revert mask) (λ y. refl) (isRevision (sideStep d (Revert mask) .0)) g
   call-adds (Read R i) ty g = adds-none (isRevision (sideStep d (Read R i) .0)) g
   call-adds (Show i) ty g = adds-none (isRevision (sideStep d (Show i) .0)) g
   call-adds (Status i) ty g = adds-none (isRevision (sideStep d (Status i) .0)) g
   call-adds (Log R i) ty g = adds-none (isRevision (sideStep d (Log R i) .0)) g
+  call-adds Clears ty g = clear-by (storeRefusal store Clears) (isRevision (sideStep d Clears .0)) g
 
 -- ---- a list of calls
 
-list-adds : (N : ℕ) (b : Buffers) (s : State) (ts : List Turn) → Shows N b s → Kept s → AllValid ts → runOn b ts .store ≡ continued (b .store) (accepted s ts)
-list-adds N b s [] W K v = sym (continued-none N (b .store) (s .history) (W .store .holds))
+list-adds : (N : ℕ) (b : Buffers) (s : State) (ts : List Turn) → Shows N b s → Kept s → AllValid ts → bareOf (runOn b ts .store) ≡ continued (b .store) (accepted s ts)
+list-adds N b s [] W K v = bare-held N (b .store) (s .history) (s .used) (s .tail) (W .store) ∙ sym (continued-none N (b .store) (s .history) (s .used) (s .tail) (W .store))
 list-adds N b s (t ∷ ts) W K v =
     let s′ : State = step s (t .by) (t .call) .1 in
     let lo : 1 ≤ t .by = v .0 .low in
@@ -236,25 +271,57 @@ list-adds N b s (t ∷ ts) W K v =
     list-adds N (afterTurn b t) s′ ts (one-step N b s t W K (v .0) .1) (kept-step s t (v .0) K) (v .1)
     ∙ call-adds N (b .store) (getD (b .copies) (t .by - 1) []) (sideOf s (t .by)) (seen-seat N b s (t .by) W lo hi) (kept-side s (t .by) K lo hi) lo hi (t .call) (v .0 .typed) (accepted s′ ts)
     ∙ ap (λ (a : Answer). continued (b .store) (cond (isRevision a) (asked (sideOf s (t .by)) (t .call)) [] ++ accepted s′ ts))
-    (step-side N b s (t .by) W K lo hi (firstOf (conditions (sideOf s (t .by)) (t .call))) (t .call) .0)
+    (step-side N b s (t .by) W K lo hi (firstOf (ownConditions (sideOf s (t .by)) (t .call))) (t .call) .0)
+
+-- none of these calls makes a tail
+tail-still : (d : Side) (c : Call) → d .tail ≡ 0 → doing d c .1 .tail ≡ 0
+tail-still d (Add i x) e = e
+tail-still d (Edit i x) e = e
+tail-still d (Delete i) e = e
+tail-still d (Copy i j) e = e
+tail-still d (Move i j) e = e
+tail-still d (Commits stamp mask) e = e
+tail-still d (Update mask R) e = e
+tail-still d (Revert mask) e = e
+tail-still d (Read R i) e = e
+tail-still d (Show i) e = e
+tail-still d (Status i) e = e
+tail-still d (Log R i) e = e
+tail-still d Clears e = refl
+
+tail-by : (o : Option ℕ) (s : State) (k : ℕ) (c : Call) → s .tail ≡ 0 → stepBy o s k c .1 .tail ≡ 0
+tail-by (some n) s k c e = e
+tail-by none s k c e = tail-still (sideOf s k) c e
+
+no-tails : (s : State) (ts : List Turn) → s .tail ≡ 0 → run s ts .tail ≡ 0
+no-tails s [] e = e
+no-tails s (t ∷ ts) e = no-tails (step s (t .by) (t .call) .1) ts (tail-by (firstOf (ownConditions (sideOf s (t .by)) (t .call))) s (t .by) (t .call) e)
 
 -- ---- a fresh store
 
 fresh-continued : (N : ℕ) (h : History) → 1 ≤ N → continued (freshStore N) h ≡ storeBytes N h
 unfolding storeBytes tablesOf tablesAfter
 fresh-continued N h le =
-    continued-is N (freshStore N) [] (fresh-stored N le .holds) h
+    stored-is N (freshStore N) [] 1 (fresh-stored N le) h
     ∙ ap (λ (f : List Block). joined fieldsOf (further N [] f h)) (fresh-front N le)
+
+-- what a list of calls on fresh buffers leaves
+list-shows : (N : ℕ) (ts : List Turn) → 2 ≤ N → N ≤ 4_096 → AllValid ts → Shows N (runOn (freshBuffers N) ts) (run (fresh N) ts)
+list-shows N ts lo hi v = whole N (freshBuffers N) (fresh N) ts (fresh-shows N lo hi) (kept-fresh N (omega arith)) v .1
 
 list-bytes : (N : ℕ) (ts : List Turn) → 2 ≤ N → N ≤ 4_096 → AllValid ts → runOn (freshBuffers N) ts .store ≡ storeBytes N (accepted (fresh N) ts)
 list-bytes N ts lo hi v =
-    list-adds N (freshBuffers N) (fresh N) ts (fresh-shows N lo hi) (kept-fresh N (omega arith)) v ∙ fresh-continued N (accepted (fresh N) ts) (omega arith)
+    let e : State = run (fresh N) ts in
+    let S : Stored N (runOn (freshBuffers N) ts .store) (e .history) (e .used) =
+    tailed-stored N (runOn (freshBuffers N) ts .store) (e .history) (e .used) (e .tail) (no-tails (fresh N) ts refl) (list-shows N ts lo hi v .store) in
+    sym (bare-stored N (runOn (freshBuffers N) ts .store) (e .history) (e .used) S)
+    ∙ list-adds N (freshBuffers N) (fresh N) ts (fresh-shows N lo hi) (kept-fresh N (omega arith)) v ∙ fresh-continued N (accepted (fresh N) ts) (omega arith)
 
 -- the history that is read in what a list leaves is that of its accepted commits
 pub list-history : (N : ℕ) (ts : List Turn) → 2 ≤ N → N ≤ 4_096 → AllValid ts → storeHistory (runOn (freshBuffers N) ts .store) ≡ accepted (fresh N) ts
 list-history N ts lo hi v =
-    let W = whole N (freshBuffers N) (fresh N) ts (fresh-shows N lo hi) (kept-fresh N (omega arith)) v .1 in
-    history-held N (runOn (freshBuffers N) ts .store) (run (fresh N) ts .history) (W .store .holds) ∙ found N ts
+    let e : State = run (fresh N) ts in
+    history-held N (runOn (freshBuffers N) ts .store) (e .history) (e .used) (e .tail) (list-shows N ts lo hi v .store) ∙ found N ts
 
 -- ---- the layout of any history that is sound
 
@@ -272,7 +339,7 @@ history-stored : (N : ℕ) (store : Bytes) (h : History) (used : ℕ) (g : Histo
     → Stored N (continued store g) (h ++ g) (used + takes h g)
 history-stored N store h used [] many S lt m room =
     let n : used + 0 ≡ used = omega arith in
-    rw (continued-none N store h (S .holds), append-nil, n) S
+    rw (stored-none N store h used S, append-nil, n) S
 history-stored N store h used (c ∷ g) many S lt m room =
     let k : ℕ = blocksFor h (c .changes) in
     let short : last h < 65_535 = omega arith in
@@ -305,31 +372,36 @@ module _ (store copy : Bytes) (stamp mask R : ℕ) (small : stamp < 2 ^ 32) wher
       let K = accepted-kept store copy A in
       let h : History = storeHistory store in
       let N : ℕ = blockCount store in
-      let H : Holds N store h = E .stored .holds in
-      let L : Lays (storeBlocks store) h = holds-blocks N store h H .lays in
+      let X : Tailed N store h (usedOf store) (tailOf store) = E .stored in
+      let S : Stored N store h (usedOf store) = tailed-stored N store h (usedOf store) (tailOf store) (untailed-so d stamp mask (p .1)) X in
+      let same : storeBlocks store ≡ blocksOf N store = stored-blocks N store h (usedOf store) S in
+      let L : Lays (storeBlocks store) h = subst (λ (l : List Block). Lays l h) (sym same) (holds-blocks N store h (S .holds) .lays) in
       let lo : 1 ≤ d .seat = seats store copy A .0 in
       let hi : d .seat ≤ 4 = seats store copy A .1 in
-      let C = committable d stamp mask (none-holds (conditions d asks) (p .1)) lo hi small in
+      let C = committable d stamp mask (none-holds (conditions d asks) (p .2)) lo hi small in
       let short : last h < 65_535 = omega (arith, used-low h, K .used, K .room, E .many) in
       let M : Made h made = made-commit d stamp mask K C in
       let room : usedOf store + blocksFor h (made .changes) ≤ N = C .room in
       let ts : List Table = tablesOf (front (storeBlocks store)) in
       let r : suc (last h) ≡ R = cc q in
       let b : storeWith store (made ∷ []) ≡ continued store (made ∷ []) =
-      sym (continued-none N (storeWith store (made ∷ [])) (h ++ (made ∷ [])) (stored N store h (usedOf store) made (E .many) short (E .stored) M room .holds))
-      ∙ continued-on N store h (usedOf store) made (E .many) short (E .stored) M room [] in
+      ap (λ (l : List Block). joined fieldsOf (withCommit l made)) same
+      ∙ sym (stored-none N (joined fieldsOf (withCommit (blocksOf N store) made)) (h ++ (made ∷ [])) (usedOf store + blocksFor h (made .changes)) (stored N store h (usedOf store) made (E .many) short S M room))
+      ∙ continued-on N store h (usedOf store) made (E .many) short S M room [] in
       subst (Appends store (storeWith store (made ∷ [])) made) r
       (record {
-        kept = ap (take (512 * usedOf store)) b ∙ continued-keeps N store h H (made ∷ []);
+        kept = ap (take (512 * usedOf store)) b ∙ continued-keeps N store h (usedOf store) (tailOf store) X (made ∷ []);
         contents = contentsAfter h ts made;
         lines = linesAfter h ts (usedOf store) made;
-        rest = rest N store h (usedOf store) made (E .many) short (E .stored) M room;
+        rest = rest N store h (usedOf store) made (E .many) short S M room;
         behind =
-            blocks-behind N store h (usedOf store) made (E .many) short (E .stored) M room
+            ap (λ (l : List Block). storeBlocks (joined fieldsOf (withCommit l made))) same
+            ∙ blocks-behind N store h (usedOf store) made (E .many) short S M room
+            ∙ ap (λ (l : List Block). front l ++ (commitBlocks h (tablesOf (front l)) (length (front l)) made ++ rest N store h (usedOf store) made (E .many) short S M room)) (sym same)
             ∙ ap (λ (l : List Block). front (storeBlocks store) ++ l)
             (append-assoc (map (content (suc (last h))) (contentsAfter h ts made)) (commit (suc (last h)) (made .seat) (made .stamp) (linesAfter h ts (usedOf store) made) ∷ [])
-            (rest N store h (usedOf store) made (E .many) short (E .stored) M room));
-        unused = blank-behind N store h (usedOf store) made (E .many) short (E .stored) M room;
+            (rest N store h (usedOf store) made (E .many) short S M room));
+        unused = blank-behind N store h (usedOf store) made (E .many) short S M room;
         order = laid-in-order (storeBlocks store) h made L;
         bytes = b;
       })
@@ -341,7 +413,7 @@ laid-read store h L =
     let D = demand-two store [] in
     let t : firstOf (storeConditions store) ≡ none = D .store-accepted .1 (h, L) in
     let A : Accepted store (freshCopy 1) = fresh-accepted store [] (clear (storeConditions store) t) in
-    let e : storeHistory store ≡ h = D .store-read h L in
+    let e : storeHistory store ≡ h = D .store-read h L .0 in
     record {
       accepted = t;
       found = λ R i le small.
@@ -369,5 +441,7 @@ ordered = record {
       let one : 1 ≤ N = omega arith in
       let m : MadeFrom [] h = made-from [] h (λ r lt. s r lt) in
       let S : Stored N (continued (freshStore N) h) h (1 + takes [] h) = history-stored N (freshStore N) [] 1 h hi (fresh-stored N one) (omega arith) m room in
-      record { count = N; few = lo; many = hi; holds = subst (λ (l : Bytes). Holds N l h) (fresh-continued N h one) (S .holds) };
+      let X : Tailed N (storeBytes N h) h (1 + takes [] h) 0 =
+      stored-tailed N (storeBytes N h) h (1 + takes [] h) (subst (λ (l : Bytes). Stored N l h (1 + takes [] h)) (fresh-continued N h one) S) in
+      (record { count = N; few = lo; many = hi; used = 1 + takes [] h; tail = 0; holds = X }, tail-held N (storeBytes N h) h (1 + takes [] h) 0 X);
 }

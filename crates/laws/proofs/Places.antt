@@ -4,23 +4,25 @@ use Prim.Native.Nat.{_*_, _+_, _<_, _≤_, suc, zero, ℕ}
 use mathlib.Core.Bool.{Bool, cond, false, true}
 use mathlib.Core.List.{List, [], _++_, _∷_, append-assoc, map}
 use mathlib.Core.Option.{none, some}
-use mathlib.Core.Path.{_∙_, _≡_, ap, refl, subst, sym}
+use mathlib.Core.Path.{_∙_, _≡_, ap, ap₂, refl, subst, sym}
 use native.Mathlib.Omega.{arith}
 use borrow.Author.Tests.{leb-false, leb-true}
-use lib.Dec.{eqb, leb}
-use lib.ListN.{List·getD-eq-default, List·getD-map, drop, getD, length, length-map, take}
-use lib.Seq.{drop-append-add, drop-append-le, take-append-seam}
+use lib.Dec.{eqb, leb, lit≤}
+use lib.ListN.{List·getD-eq-default, List·getD-map, drop, getD, length, length-drop, length-map, take}
+use lib.Seq.{drop-append-add, drop-append-le, take-append-le, take-append-seam}
 use Rattle.block.specs.Check.{checksOf}
 use Rattle.block.specs.Lists.{All}
 use Rattle.model.specs.Blocks.{Block, FitsBlock, blank, bytesAt, commit, content, fieldsOf, held, label}
-use Rattle.model.specs.Calls.{blockPlace, heard, inCopy, inStore}
+use Rattle.model.specs.Calls.{blockPlace, heard, inCopy, inStore, storeConditions}
 use Rattle.model.specs.Codec.{encode, joined, padded}
 use Rattle.model.specs.Entry.{Entry, added, copied, deleted, empty, normal, ownBytes}
 use Rattle.model.specs.History.{Bytes, History, Tree, last, sheet, tree}
 use Rattle.model.specs.Layout.{Lays, Table}
 use Rattle.model.specs.Machine.{bytes}
 use Rattle.model.specs.Pass.{tablesOf}
-use Rattle.model.specs.Store.{Holds, blockCount, blockUsed, blocksOf}
+use Rattle.model.specs.Refusals.{firstOf}
+use Rattle.model.specs.Store.{blockCount, blockUsed, blocksOf, front, storeBlocks, storeHistory, tailOf, usedOf}
+use Rattle.model.specs.Tail.{Tailed}
 use Rattle.model.specs.WorkCopy.{CopyBlock, FitsCopyBlock, HoldsCopy, copyFields, entryBlock, entryBytes, seatBlock}
 use Rattle.laws.proofs.Acceptance.{lays-accepted}
 use Rattle.laws.proofs.All.{All-getD}
@@ -29,7 +31,9 @@ use Rattle.laws.proofs.Bridge.{tables-trail}
 use Rattle.laws.proofs.Codec.{length-encode, padded-split}
 use Rattle.laws.proofs.EntryCodes.{copy-coded}
 use Rattle.laws.proofs.Tables.{slot, slot-at, tables-trees}
-use Rattle.laws.proofs.Writing.{holds-blocks}
+use Rattle.laws.proofs.Writing.{holds-blocks, tables-used, user-below}
+use Rattle.laws.proofs.Store.{bare-held, count-held, taken-tailed}
+use Rattle.laws.proofs.Tailing.{bare-is, fr-size, front-is}
 
 -- from byte 16 of part p of a buffer on
 module _ {A : Type 0} (fields : A → List ℕ) where
@@ -115,16 +119,53 @@ used-bytes bs h R i x L le e =
     slot-bytes (bytesAt bs) (getD (getD (tablesOf bs) R []) i 0) x
     (sym (slot-at (bytesAt bs) (getD (tablesOf bs) R []) i) ∙ ap (λ (k : Tree). getD k i none) t ∙ e)
 
+held-short : (b : Block) → FitsBlock b → length (held b) ≤ 480
+held-short label f = lit≤ tt
+held-short (content r x) f = f .1
+held-short (commit r seat stamp ls) f = lit≤ tt
+held-short blank f = lit≤ tt
+
+-- what stands in the first bytes does not hang on what follows them
+same-front : (a x y : List ℕ) (q k : ℕ) → q + k ≤ length a → take k (drop q (a ++ x)) ≡ take k (drop q (a ++ y))
+same-front a x y q k h =
+    let g : k ≤ length (drop q a) = simp length-drop (omega arith) in
+    ap (take k) (drop-append-le q a x (omega arith)) ∙ take-append-le k (drop q a) x g
+    ∙ sym (ap (take k) (drop-append-le q a y (omega arith)) ∙ take-append-le k (drop q a) y g)
+
+-- what a used block holds stands in the store; the tail is not looked at
+block-held : (N : ℕ) (store : Bytes) (h : History) (used t : ℕ) (X : Tailed N store h used t) (p : ℕ) → p < used
+    → take (length (bytesAt (blocksOf N (X .bare)) p)) (drop (512 * p + 16) store) ≡ bytesAt (blocksOf N (X .bare)) p
+unfolding bytesAt
+block-held N store h used t X p low =
+    let bare : Bytes = X .bare in
+    let B = holds-blocks N bare h (X .stored .holds) in
+    let bs : List Block = blocksOf N bare in
+    let short : length (bytesAt bs p) ≤ 480 = held-short (getD bs p blank) (All-getD FitsBlock bs p blank (B .fit) tt) in
+    ap (λ (l : Bytes). take (length (bytesAt bs p)) (drop (512 * p + 16) l)) (front-is N store h used t X)
+    ∙ same-front (joined fieldsOf (front bs)) _ _ (512 * p + 16) (length (bytesAt bs p)) (omega (arith, fr-size N store h used t X))
+    ∙ ap (λ (l : Bytes). take (length (bytesAt bs p)) (drop (512 * p + 16) l)) (sym (bare-is N store h used t X) ∙ sym (B .bytes))
+    ∙ store-place bs p (B .fit)
+
+pub taken-held : (store : Bytes) → firstOf (storeConditions store) ≡ none → (p : ℕ) → p < usedOf store
+    → take (length (bytesAt (storeBlocks store) p)) (drop (512 * p + 16) store) ≡ bytesAt (storeBlocks store) p
+taken-held store e p low =
+    let X = taken-tailed store e in
+    subst (λ (l : Bytes). take (length (bytesAt (blocksOf (blockCount store) l) p)) (drop (512 * p + 16) store) ≡ bytesAt (blocksOf (blockCount store) l) p)
+    (sym (bare-held (blockCount store) store (storeHistory store) (usedOf store) (tailOf store) X))
+    (block-held (blockCount store) store (storeHistory store) (usedOf store) (tailOf store) X p low)
+
 -- THE STATEMENT for the store: what stands at the place of sheet i of tree R, whatever number v goes with it
-pub heard-block : (N : ℕ) (store copy : Bytes) (h : History) (R i v : ℕ) (x : Bytes) → blockCount store ≡ N → Holds N store h → R ≤ last h → sheet h R i ≡ some x
+pub heard-block : (N : ℕ) (store copy : Bytes) (h : History) (used t R i v : ℕ) (x : Bytes) → Tailed N store h used t → R ≤ last h → sheet h R i ≡ some x
     → heard store copy (blockPlace store (blockUsed store R i) v) ≡ bytes x v
-heard-block N store copy h R i v x n H le e =
-    let B = holds-blocks N store h H in
-    let bs : List Block = blocksOf N store in
+heard-block N store copy h used t R i v x X le e =
+    let bare : Bytes = X .bare in
+    let B = holds-blocks N bare h (X .stored .holds) in
+    let bs : List Block = blocksOf N bare in
     let p : ℕ = getD (getD (tablesOf bs) R []) i 0 in
-    ap (λ (m : ℕ). heard store copy (inStore (512 * getD (getD (tablesOf (blocksOf m store)) R []) i 0 + 16) (length (bytesAt (blocksOf m store) (getD (getD (tablesOf (blocksOf m store)) R []) i 0))) v)) n
-    ∙ ap (λ (l : Bytes). bytes (take (length (bytesAt bs p)) (drop (512 * p + 16) l)) v) (sym (B .bytes))
-    ∙ ap (λ (y : Bytes). bytes y v) (store-place bs p (B .fit) ∙ used-bytes bs h R i x (B .lays) le e)
+    let low : p < used = subst (λ (ts : List Table). getD (getD ts R []) i 0 < used) (tables-used bs h (B .lays)) (subst (λ (n : ℕ). getD (getD (tablesOf (front bs)) R []) i 0 < n) (X .stored .uses) (user-below bs h (B .lays) R i)) in
+    let seen : storeBlocks store ≡ bs = ap₂ blocksOf (count-held N store h used t X) (bare-held N store h used t X) in
+    ap (λ (y : List Block). heard store copy (inStore (512 * getD (getD (tablesOf y) R []) i 0 + 16) (length (bytesAt y (getD (getD (tablesOf y) R []) i 0))) v)) seen
+    ∙ ap (λ (y : Bytes). bytes y v) (block-held N store h used t X p low ∙ used-bytes bs h R i x (B .lays) le e)
 
 -- ---- in the working copy
 

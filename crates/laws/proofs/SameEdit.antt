@@ -17,15 +17,15 @@ use Rattle.model.specs.Entry.{Entry, added, copied, deleted, empty, modified, n
 use Rattle.model.specs.History.{Bytes, History, isBytes, last, namedAfter, namer, newest, present, sheet}
 use Rattle.model.specs.Invariant.{FitsAt, Sound}
 use Rattle.model.specs.Machine.{Answer, Call, Commits, Side, Status, Update, agreed, asIn, chosen, doing, done, orElse, refused, sameNamer, status, statusOf, updated, updatedTo}
-use Rattle.model.specs.Refusals.{conditions, conflict, firstOf, lacking, nothingChosen, outOfDate, someConflict, someStale, tooLate}
+use Rattle.model.specs.Refusals.{Clear, conditions, conflict, firstOf, lacking, nothingChosen, outOfDate, someConflict, someStale, tailConditions, tooLate}
 use Rattle.model.specs.Run.{sideBy, sideStep}
 use Rattle.model.specs.SameEdit.{AllAgree, Leaves, Quarrel, SameEdit, Updates, agrees, formerly}
 use Rattle.model.specs.Shows.{Accepted, Seen}
-use Rattle.model.specs.Store.{blockCount, storeHistory}
+use Rattle.model.specs.Store.{blockCount, storeHistory, tailOf}
 use Rattle.model.specs.WorkCopy.{entriesOf, seatOf}
 use Rattle.laws.proofs.Accepted.{accepted-call, accepted-kept, both, stays-accepted}
 use Rattle.laws.proofs.Answers.{up-to-date, updated-at}
-use Rattle.laws.proofs.Conditions.{clear, clear-first}
+use Rattle.laws.proofs.Conditions.{clear, clear-first, no-tail}
 use Rattle.laws.proofs.Demand1.{refused-leaves}
 use Rattle.laws.proofs.Demand3.{no-conflict}
 use Rattle.laws.proofs.Rows.{chosen-none, cond-same, no-rows, row-some, some-row-at}
@@ -272,22 +272,24 @@ module _ (store copy : Bytes) (A : Accepted store copy) where
       each i g true c = agrees-or h R i (getD es i empty) (f i g c)
 
   -- the first line that holds of a call on accepted buffers
-  refused-first : (c : Call) (n : ℕ) → firstOf (conditions d c) ≡ some n → firstOf (bothConditions store copy c) ≡ some n
-  refused-first c n e =
-      clear-first (storeConditions store) (copyConditions store copy ++ conditions d c) (clear (storeConditions store) (A .storeTaken))
+  refused-first : (c : Call) (n : ℕ) → Clear (tailConditions d c) → firstOf (conditions d c) ≡ some n → firstOf (bothConditions store copy c) ≡ some n
+  refused-first c n t e =
+      clear-first (storeConditions store) (tailConditions d c ++ (copyConditions store copy ++ conditions d c)) (clear (storeConditions store) (A .storeTaken))
+      ∙ clear-first (tailConditions d c) (copyConditions store copy ++ conditions d c) t
       ∙ clear-first (copyConditions store copy) (conditions d c) (clear (copyConditions store copy) (A .copyTaken)) ∙ e
 
-  commit-refused : (stamp mask n : ℕ) → firstOf (conditions d (Commits stamp mask)) ≡ some n → commitCall store copy stamp mask .says ≡ refused n
-  commit-refused stamp mask n e = ap (λ (o : Out). o .says) (refused-leaves store copy (Commits stamp mask) n (refused-first (Commits stamp mask) n e))
+  commit-refused : tailOf store ≡ 0 → (stamp mask n : ℕ) → firstOf (conditions d (Commits stamp mask)) ≡ some n → commitCall store copy stamp mask .says ≡ refused n
+  commit-refused t stamp mask n e =
+      ap (λ (o : Out). o .says) (refused-leaves store copy (Commits stamp mask) n (refused-first (Commits stamp mask) n (no-tail d stamp mask t) e))
 
-  stale : (stamp mask i : ℕ) → i < 32 → chosen mask i ≡ true → agrees h (last h) i (getD es i empty) ≡ true → commitCall store copy stamp mask .says ≡ refused 11
-  stale stamp mask i g c z =
+  stale : tailOf store ≡ 0 → (stamp mask i : ℕ) → i < 32 → chosen mask i ≡ true → agrees h (last h) i (getD es i empty) ≡ true → commitCall store copy stamp mask .says ≡ refused 11
+  stale t stamp mask i g c z =
       let K = accepted-kept store copy A in
       let l : i < length es = omega (arith, wide) in
       let seven : eqb mask 0 ≡ false = ne-eqb mask 0 (picks mask i c) in
       let ten : nothingChosen d mask ≡ false = ap not (some-row-at (λ i e. chosen mask i && pending h i e) empty es i l (ap₂ _&&_ c (is-pending h (last h) i (getD es i empty) z))) in
       let eleven : someStale d mask ≡ true = some-row-at (λ i e. chosen mask i && outOfDate h i e) empty es i l (ap₂ _&&_ c (is-stale h i (getD es i empty) (K .sound) (K .fits i) z)) in
-      commit-refused stamp mask 11 (rw (seven, ten, eleven))
+      commit-refused t stamp mask 11 (rw (seven, ten, eleven))
 
   needs-merge : (i b : ℕ) (x : Bytes) → i < 32 → getD es i empty ≡ normal b x → agrees h (last h) i (normal b x) ≡ true → statusCall store copy i ≡ status 4 (namer h (last h) i)
   needs-merge i b x g e z =
@@ -299,14 +301,14 @@ module _ (store copy : Bytes) (A : Accepted store copy) where
       accepted-call store copy A (Status i) tt .0 ∙ rw seven (ap (λ (s : ℕ). status s (namer h (last h) i)) (ap (statusOf h i) e ∙ s))
 
 -- nothing chosen is pending
-nothing-left : (store copy : Bytes) → Accepted store copy → (stamp mask : ℕ) → (mask ≡ 0 → ⊥)
+nothing-left : (store copy : Bytes) → Accepted store copy → tailOf store ≡ 0 → (stamp mask : ℕ) → (mask ≡ 0 → ⊥)
     → ((i : ℕ) → i < 32 → chosen mask i ≡ true → pending (storeHistory store) i (getD (entriesOf copy) i empty) ≡ false) → commitCall store copy stamp mask .says ≡ refused 10
-nothing-left store copy A stamp mask nz f =
+nothing-left store copy A t stamp mask nz f =
     let h : History = storeHistory store in
     let seven : eqb mask 0 ≡ false = ne-eqb mask 0 nz in
     let ten : nothingChosen (sideIn store copy) mask ≡ true =
     ap not (no-rows (λ i e. chosen mask i && pending h i e) empty 0 (entriesOf copy) (λ i g. rw zero-add (each i (omega (arith, g, wide store copy A)) (chosen mask i) refl))) in
-    commit-refused store copy A stamp mask 10 (rw (seven, ten))
+    commit-refused store copy A t stamp mask 10 (rw (seven, ten))
   where
     each : (i : ℕ) → i < 32 → (c : Bool) → chosen mask i ≡ c → (c && pending (storeHistory store) i (getD (entriesOf copy) i empty)) ≡ false
     each i g false c = refl
@@ -322,7 +324,7 @@ same-store store copy mask R = go (refusalOf store copy (Update mask R))
     go (some n) = refl
 
 settles : (store copy : Bytes) → Accepted store copy → (stamp mask R : ℕ) → (mask ≡ 0 → ⊥) → R ≤ last (storeHistory store) → AllAgree (storeHistory store) mask R (entriesOf copy)
-    → (updateCall store copy mask R .says ≡ done) × (commitCall (updateCall store copy mask R .store) (updateCall store copy mask R .copy) stamp mask .says ≡ refused 10)
+    → (updateCall store copy mask R .says ≡ done) × (tailOf store ≡ 0 → commitCall (updateCall store copy mask R .store) (updateCall store copy mask R .copy) stamp mask .says ≡ refused 10)
 settles store copy A stamp mask R nz le f =
     let h : History = storeHistory store in
     let after : Bytes = updateCall store copy mask R .copy in
@@ -330,8 +332,8 @@ settles store copy A stamp mask R nz le f =
     let s = same-store store copy mask R in
     let A′ : Accepted store after = subst (λ (x : Bytes). Accepted x after) s (stays-accepted store copy A (Update mask R) tt) in (
       q,
-      ap (λ (x : Bytes). commitCall x after stamp mask .says) s
-          ∙ nothing-left store after A′ stamp mask nz (λ i g c. ap (pending h i) (brought q i g c (f i g c)) ∙ as-in-clear h R i),
+      λ t. ap (λ (x : Bytes). commitCall x after stamp mask .says) s
+          ∙ nothing-left store after A′ t stamp mask nz (λ i g c. ap (pending h i) (brought q i g c (f i g c)) ∙ as-in-clear h R i),
     )
   where
     brought : updateCall store copy mask R .says ≡ done → (i : ℕ) → i < 32 → chosen mask i ≡ true

@@ -139,10 +139,10 @@ module _ (store : Bytes) where
         go none (some x) z y q = let v : _≡_ {A = ℕ} 0 1 = cc in absurd (omega arith)
         go none none z y q =
             let c = clear-accepted store work (Show i) (clear (bothConditions store work (Show i)) z) in
-            let t : not (present (newest h i)) ≡ false = rw y at (c .1 .1 .0) in
+            let t : not (present (newest h i)) ≡ false = rw y at (c .2 .1 .0) in
             record {
               taken = clear (storeConditions store) (c .0 .storeTaken);
-              small = ltb-false 31 i (c .1 .0);
+              small = ltb-false 31 i (c .2 .0);
               upTo = omega arith;
               there = not-false (present (newest h i)) t;
               is = cc;
@@ -156,7 +156,7 @@ module _ (store : Bytes) where
         go (some k) z q = let v : _≡_ {A = ℕ} 0 1 = cc in absurd (omega arith)
         go none z q =
             let c = clear-accepted store work (Status i) (clear (bothConditions store work (Status i)) z) in
-            numbered (last h) i n (clear (storeConditions store) (c .0 .storeTaken)) (ltb-false 31 i (c .1 .0)) (omega arith) cc
+            numbered (last h) i n (clear (storeConditions store) (c .0 .storeTaken)) (ltb-false 31 i (c .2 .0)) (omega arith) cc
 
 numbers : (store work : Bytes) → CallNumbers store work
 numbers store work = record {

@@ -8,32 +8,33 @@ use mathlib.Core.Option.{Option, none, some}
 use mathlib.Core.Path.{_∙_, _≡_, ap, ap₂, refl, subst, sym}
 use native.Mathlib.Nat.{zero-add}
 use native.Mathlib.Omega.{arith}
-use borrow.Author.Tests.{eq-eqb, le-leb, ltb-false}
+use borrow.Author.Tests.{eq-eqb, eqb-true, le-leb, ltb-false, not-false}
 use lib.Dec.{eqb}
 use lib.ListN.{getD, length, length-set, set}
 use lib.Seq.{getD-set-other, getD-set-same, set-getD}
 use Rattle.block.proofs.Says.{eq-or, is-true}
 use Rattle.block.specs.Lists.{All}
-use Rattle.model.specs.Blocks.{fieldsOf}
-use Rattle.model.specs.Calls.{Buffers, Out, afterTurn, answerBy, blockPlace, call, changeBy, changeCall, copyConditions, foundPlace, heard, logCall, out, ownPlace, placeBy, readCall, readPlace, refusalOf, showCall, showPlace, sideIn, statusCall, storeConditions, storeRefusal, storeSide, storeWith, turnOn}
+use Rattle.model.specs.Blocks.{Block, fieldsOf}
+use Rattle.model.specs.Calls.{Buffers, Created, Out, afterTurn, answerBy, blockPlace, call, changeBy, changeCall, clearCall, copyConditions, createBy, foundPlace, heard, logCall, out, ownPlace, placeBy, readCall, readPlace, refusalOf, showCall, showPlace, sideIn, statusCall, storeConditions, storeRefusal, storeSide, storeWith, turnOn}
 use Rattle.model.specs.Codec.{joined}
 use Rattle.model.specs.Entry.{Entry, added, copied, deleted, empty, normal, ownBytes}
 use Rattle.model.specs.Fitting.{fitsEntry, fitsStore, has}
 use Rattle.model.specs.History.{Bytes, Commit, History, last, namer, newest, present, sheet}
 use Rattle.model.specs.Invariant.{Base, FitsAt, Kept}
-use Rattle.model.specs.Machine.{Add, Answer, Call, Commits, Copy, Delete, Edit, Log, Move, Read, Revert, Show, Side, State, Status, Update, asBytes, blocksFor, doing, entry, newCommit, put, shown, shownNamer, sideOf}
-use Rattle.model.specs.Refusals.{Clear, _when_, conditions, firstOf, noSheet, tooLate}
+use Rattle.model.specs.Machine.{Add, Answer, Call, Clears, Commits, Copy, Delete, Edit, Log, Move, Read, Revert, Show, Side, State, Status, Update, asBytes, blocksFor, doing, entry, newCommit, put, shown, shownNamer, sideOf}
+use Rattle.model.specs.Refusals.{Clear, _when_, conditions, firstOf, noSheet, tailConditions, tooLate}
 use Rattle.model.specs.Rows.{some-row}
-use Rattle.model.specs.Run.{Turn, Typed, Valid, asked, sideBy, sideStep, step, stepBy}
-use Rattle.model.specs.Shows.{Seen, Shows, Stored}
-use Rattle.model.specs.Store.{blockCount, blockUsed, blocksOf, front, storeHistory, usedOf}
+use Rattle.model.specs.Run.{Turn, Typed, Valid, asked, sideBy, sideStep, step, stepBy, ownConditions}
+use Rattle.model.specs.Shows.{Seen, Shows}
+use Rattle.model.specs.Tail.{Tailed}
+use Rattle.model.specs.Store.{blockCount, blockUsed, blocksOf, storeBlocks, storeHistory, tailOf, usedOf}
 use Rattle.model.specs.WorkCopy.{FitsCopyBlock, HoldsCopy, copyBytes, copyOk, entriesOf, entryBlock}
 use Rattle.model.specs.Writing.{withCommit}
-use Rattle.laws.proofs.Conditions.{clear, clear-first}
+use Rattle.laws.proofs.Conditions.{clear, clear-first, clear-mid, own-none}
 use Rattle.laws.proofs.Invariant.{KeptSide, committable, kept-doing, kept-side, made-commit}
 use Rattle.laws.proofs.Places.{heard-block, heard-own}
 use Rattle.laws.proofs.Rows.{or-false}
-use Rattle.laws.proofs.Store.{clear-held, count-held, history-held}
+use Rattle.laws.proofs.Store.{bare-held, clear-held, count-held, history-held, stored-tailed, tail-held, used-held}
 use Rattle.laws.proofs.Trees.{used-low}
 use Rattle.laws.proofs.WorkCopy.{copy-bytes, holds-copy}
 use Rattle.laws.proofs.Writing.{stored-commit}
@@ -81,26 +82,50 @@ laid-copy d K n lo hi =
     copy-bytes (d .seat) (d .entries) (K .wide) lo hi
     (fits-pieces (d .history) 0 (d .entries) (omega (arith, used-low (d .history), K .used, K .room)) (λ i. rw zero-add (K .fits i)))
 
+-- all calls but clearing, which is on the store alone
+abbrev Alters : Call → Type 0
+Alters (Add i x) = Unit {0}
+Alters (Edit i x) = Unit {0}
+Alters (Delete i) = Unit {0}
+Alters (Copy i j) = Unit {0}
+Alters (Move i j) = Unit {0}
+Alters (Commits stamp mask) = Unit {0}
+Alters (Update mask R) = Unit {0}
+Alters (Revert mask) = Unit {0}
+Alters (Read R i) = Unit {0}
+Alters (Show i) = Unit {0}
+Alters (Status i) = Unit {0}
+Alters (Log R i) = Unit {0}
+Alters Clears = ⊥
+
 -- the store that a call leaves
-stored-doing : (N : ℕ) (store : Bytes) (d : Side) (c : Call) → N ≤ 4_096 → blockCount store ≡ N → d .blocks ≡ N → Stored N store (d .history) (d .used) → KeptSide d
-    → firstOf (conditions d c) ≡ none → 1 ≤ d .seat → d .seat ≤ 4 → Typed c
-    → Stored N (storeWith store (asked d c)) (doing d c .1 .history) (doing d c .1 .used)
+stored-doing : (N : ℕ) (store : Bytes) (d : Side) (c : Call) → N ≤ 4_096 → Alters c → d .blocks ≡ N → Tailed N store (d .history) (d .used) (d .tail) → KeptSide d
+    → firstOf (ownConditions d c) ≡ none → 1 ≤ d .seat → d .seat ≤ 4 → Typed c
+    → Tailed N (storeWith store (asked d c)) (doing d c .1 .history) (doing d c .1 .used) (doing d c .1 .tail)
 stored-doing N store d (Add i x) many n b S K e lo hi ty = S
 stored-doing N store d (Edit i x) many n b S K e lo hi ty = S
 stored-doing N store d (Delete i) many n b S K e lo hi ty = S
 stored-doing N store d (Copy i j) many n b S K e lo hi ty = S
 stored-doing N store d (Move i j) many n b S K e lo hi ty = S
 stored-doing N store d (Commits stamp mask) many n b S K e lo hi ty =
-    let C = committable d stamp mask e lo hi ty in
+    let q = own-none d (Commits stamp mask) e in
+    let C = committable d stamp mask (q .0) lo hi ty in
     let c : Commit = newCommit d stamp mask in
-    subst (λ (m : ℕ). Stored N (joined fieldsOf (withCommit (blocksOf m store) c)) (d .history ++ (c ∷ [])) (d .used + blocksFor (d .history) (c .changes))) (sym n)
-    (stored-commit N store (d .history) (d .used) c many (omega (arith, used-low (d .history), K .used, K .room)) S (made-commit d stamp mask K C) (omega (arith, C .room)))
+    let z : d .tail ≡ 0 = eqb-true (d .tail) 0 (not-false (eqb (d .tail) 0) (q .1 .0)) in
+    let bs : storeBlocks store ≡ blocksOf N (S .bare) = ap₂ blocksOf (count-held N store (d .history) (d .used) (d .tail) S) (bare-held N store (d .history) (d .used) (d .tail) S) in
+    let h′ : History = d .history ++ (c ∷ []) in
+    let u′ : ℕ = d .used + blocksFor (d .history) (c .changes) in
+    subst (λ (t : ℕ). Tailed N (joined fieldsOf (withCommit (storeBlocks store) c)) h′ u′ t) (sym z)
+    (subst (λ (x : List Block). Tailed N (joined fieldsOf (withCommit x c)) h′ u′ 0) (sym bs)
+    (stored-tailed N (joined fieldsOf (withCommit (blocksOf N (S .bare)) c)) h′ u′
+    (stored-commit N (S .bare) (d .history) (d .used) c many (omega (arith, used-low (d .history), K .used, K .room)) (S .stored) (made-commit d stamp mask K C) (omega (arith, C .room)))))
 stored-doing N store d (Update mask R) many n b S K e lo hi ty = S
 stored-doing N store d (Revert mask) many n b S K e lo hi ty = S
 stored-doing N store d (Read R i) many n b S K e lo hi ty = S
 stored-doing N store d (Show i) many n b S K e lo hi ty = S
 stored-doing N store d (Status i) many n b S K e lo hi ty = S
 stored-doing N store d (Log R i) many n b S K e lo hi ty = S
+stored-doing N store d Clears many n b S K e lo hi ty = absurd n
 
 pub same-seat : (d : Side) (c : Call) → (doing d c .1 .seat ≡ d .seat) × (doing d c .1 .blocks ≡ d .blocks)
 same-seat d (Add i x) = (refl, refl)
@@ -115,27 +140,29 @@ same-seat d (Read R i) = (refl, refl)
 same-seat d (Show i) = (refl, refl)
 same-seat d (Status i) = (refl, refl)
 same-seat d (Log R i) = (refl, refl)
+same-seat d Clears = (refl, refl)
 
 -- ---- one call on a store and a seat's working copy
 
 module _ (N : ℕ) (store copy : Bytes) (d : Side) (E : Seen N store copy d) (K : KeptSide d) (lo : 1 ≤ d .seat) (hi : d .seat ≤ 4) where
   counted : blockCount store ≡ N
-  counted = count-held N store (d .history) (E .stored .holds)
+  counted = count-held N store (d .history) (d .used) (d .tail) (E .stored)
 
   same-history : storeHistory store ≡ d .history
-  same-history = history-held N store (d .history) (E .stored .holds)
+  same-history = history-held N store (d .history) (d .used) (d .tail) (E .stored)
 
   -- the call finds the side in the buffers
   pub same-side : sideIn store copy ≡ d
   same-side =
       let C = holds-copy copy (d .seat) (d .entries) (E .copied) in
-      let u : usedOf store ≡ d .used = ap (λ (n : ℕ). length (front (blocksOf n store))) counted ∙ E .stored .uses in
+      let u : usedOf store ≡ d .used = used-held N store (d .history) (d .used) (d .tail) (E .stored) in
+      let t : tailOf store ≡ d .tail = tail-held N store (d .history) (d .used) (d .tail) (E .stored) in
       let n : blockCount store ≡ d .blocks = counted ∙ sym (E .blocks) in
-      λ i. record { seat = C .2 i; blocks = n i; used = u i; history = same-history i; entries = C .3 i }
+      λ i. record { seat = C .2 i; blocks = n i; used = u i; tail = t i; history = same-history i; entries = C .3 i }
 
   -- no line from 1 to 6 holds
   pub store-clear : Clear (storeConditions store)
-  store-clear = clear-held N store (d .history) (E .stored .holds) (E .few) (E .many)
+  store-clear = clear-held N store (d .history) (d .used) (d .tail) (E .stored) (E .few) (E .many)
 
   pub copy-clear : Clear (copyConditions store copy)
   copy-clear =
@@ -144,12 +171,12 @@ module _ (N : ℕ) (store copy : Bytes) (d : Side) (E : Seen N store copy d) (K 
       ap₂ fitsStore same-history (C .3) ∙ fits-all (d .history) (d .entries) (K .fits) in
       (ap not (eq-eqb (length copy) 16_896 (C .0)), (ap not (is-true (copyOk copy) (C .1)), (ap not f, tt)))
 
-  pub same-refusal : (c : Call) → refusalOf store copy c ≡ firstOf (conditions d c)
+  pub same-refusal : (c : Call) → refusalOf store copy c ≡ firstOf (ownConditions d c)
   unfolding refusalOf
   same-refusal c =
-      clear-first (storeConditions store) (copyConditions store copy ++ conditions (sideIn store copy) c) store-clear
-      ∙ clear-first (copyConditions store copy) (conditions (sideIn store copy) c) copy-clear
-      ∙ ap (λ (x : Side). firstOf (conditions x c)) same-side
+      clear-first (storeConditions store) (tailConditions (sideIn store copy) c ++ (copyConditions store copy ++ conditions (sideIn store copy) c)) store-clear
+      ∙ clear-mid (tailConditions (sideIn store copy) c) (copyConditions store copy) (conditions (sideIn store copy) c) copy-clear
+      ∙ ap (λ (x : Side). firstOf (ownConditions x c)) same-side
 
   read-refusal : (R i : ℕ) → storeRefusal store (Read R i) ≡ firstOf (conditions d (Read R i))
   unfolding storeRefusal
@@ -169,11 +196,11 @@ module _ (N : ℕ) (store copy : Bytes) (d : Side) (E : Seen N store copy d) (K 
 
   -- ---- a call that changes a buffer
 
-  change-by : (c : Call) (o : Option ℕ) → Typed c → firstOf (conditions d c) ≡ o → Agrees (changeBy o store copy c) (sideBy o d c)
-  change-by c (some n) ty e = (refl, E)
-  change-by c none ty e =
+  change-by : (c : Call) (o : Option ℕ) → Alters c → Typed c → firstOf (ownConditions d c) ≡ o → Agrees (changeBy o store copy c) (sideBy o d c)
+  change-by c (some n) al ty e = (refl, E)
+  change-by c none al ty e =
       let d′ : Side = doing d c .1 in
-      let D : KeptSide d′ = kept-doing d c e lo hi ty K in
+      let D : KeptSide d′ = kept-doing d c (own-none d c e .0) lo hi ty K in
       let m = same-seat d c in
       let top : d′ .blocks ≤ 4_096 = omega (arith, m .1, E .blocks, E .many) in
       let w : Agrees (out (doing d c .0) (storeWith store (asked d c)) (copyBytes (d′ .seat) (d′ .entries))) (doing d c) = (
@@ -182,16 +209,33 @@ module _ (N : ℕ) (store copy : Bytes) (d : Side) (E : Seen N store copy d) (K 
           few = E .few;
           many = E .many;
           blocks = m .1 ∙ E .blocks;
-          stored = stored-doing N store d c (E .many) counted (E .blocks) (E .stored) K e lo hi ty;
+          stored = stored-doing N store d c (E .many) al (E .blocks) (E .stored) K e lo hi ty;
           copied = laid-copy d′ D top (omega (arith, m .0)) (omega (arith, m .0));
         },
       ) in
       subst (λ (x : Side). Agrees (out (doing x c .0) (storeWith store (asked x c)) (copyBytes (doing x c .1 .seat) (doing x c .1 .entries))) (doing d c)) (sym same-side) w
 
-  change-one : (c : Call) → Typed c → Agrees (changeCall store copy c) (sideStep d c)
+  change-one : (c : Call) → Alters c → Typed c → Agrees (changeCall store copy c) (sideStep d c)
   unfolding changeCall
-  change-one c ty =
-      subst (λ (o : Option ℕ). Agrees (changeBy o store copy c) (sideStep d c)) (sym (same-refusal c)) (change-by c (firstOf (conditions d c)) ty refl)
+  change-one c al ty =
+      subst (λ (o : Option ℕ). Agrees (changeBy o store copy c) (sideStep d c)) (sym (same-refusal c)) (change-by c (firstOf (ownConditions d c)) al ty refl)
+
+  -- ---- clearing
+
+  clear-one : Agrees (call store copy Clears) (sideStep d Clears)
+  unfolding clearCall storeRefusal
+  clear-one =
+      let q : firstOf (storeConditions store ++ []) ≡ none = clear-first (storeConditions store) [] store-clear in
+      subst (λ (x : Created). Agrees (out (x .says) (x .buffer) copy) (sideStep d Clears)) (sym (ap₂ (λ (o : Option ℕ) (l : Bytes). createBy o store l) q (bare-held N store (d .history) (d .used) (d .tail) (E .stored)))) (
+        refl,
+        record {
+          few = E .few;
+          many = E .many;
+          blocks = E .blocks;
+          stored = stored-tailed N (E .stored .bare) (d .history) (d .used) (E .stored .stored);
+          copied = E .copied;
+        },
+      )
 
   -- ---- a call that looks: it leaves the side
 
@@ -200,12 +244,12 @@ module _ (N : ℕ) (store copy : Bytes) (d : Side) (E : Seen N store copy d) (K 
   still-by none c e = e
 
   look-one : (a : Answer) (c : Call) → doing d c .1 ≡ d → a ≡ sideStep d c .0 → Agrees (out a store copy) (sideStep d c)
-  look-one a c e q = (q, subst (Seen N store copy) (sym (still-by (firstOf (conditions d c)) c e)) E)
+  look-one a c e q = (q, subst (Seen N store copy) (sym (still-by (firstOf (ownConditions d c)) c e)) E)
 
   heard-by : (copy′ : Bytes) (o : Option Bytes) (R i v : ℕ) → R ≤ last (d .history) → sheet (d .history) R i ≡ o → not (present o) ≡ false
       → heard store copy′ (blockPlace store (blockUsed store R i) v) ≡ asBytes v o
   heard-by copy′ none R i v le e q = let z : _≡_ {A = ℕ} 0 1 = cc in absurd (omega arith)
-  heard-by copy′ (some x) R i v le e q = heard-block N store copy′ (d .history) R i v x counted (E .stored .holds) le e
+  heard-by copy′ (some x) R i v le e q = heard-block N store copy′ (d .history) (d .used) (d .tail) R i v x (E .stored) le e
 
   read-by : (o : Option ℕ) (R i : ℕ) → firstOf (conditions d (Read R i)) ≡ o
       → heard store [] (placeBy o (blockPlace store (blockUsed store R i) (namer (d .history) R i))) ≡ sideBy o d (Read R i) .0
@@ -253,23 +297,24 @@ module _ (N : ℕ) (store copy : Bytes) (d : Side) (E : Seen N store copy d) (K 
   log-one : (R i : ℕ) → logCall store R i ≡ sideStep d (Log R i) .0
   unfolding logCall
   log-one R i =
-      ap₂ (λ (o : Option ℕ) (h : History). answerBy o (doing (record { seat = 0; blocks = blockCount store; used = usedOf store; history = h; entries = [] }) (Log R i) .0)) (log-refusal R i) same-history
+      ap₂ (λ (o : Option ℕ) (h : History). answerBy o (doing (record { seat = 0; blocks = blockCount store; used = usedOf store; tail = tailOf store; history = h; entries = [] }) (Log R i) .0)) (log-refusal R i) same-history
       ∙ answer-by (firstOf (conditions d (Log R i))) (Log R i)
 
   -- THE STATEMENT for one seat: on buffers in which the side d is found, a call answers as the machine does, and leaves the machine's next side in them
   pub side-one : (c : Call) → Typed c → Agrees (call store copy c) (sideStep d c)
-  side-one (Add i x) ty = change-one (Add i x) ty
-  side-one (Edit i x) ty = change-one (Edit i x) ty
-  side-one (Delete i) ty = change-one (Delete i) ty
-  side-one (Copy i j) ty = change-one (Copy i j) ty
-  side-one (Move i j) ty = change-one (Move i j) ty
-  side-one (Commits stamp mask) ty = change-one (Commits stamp mask) ty
-  side-one (Update mask R) ty = change-one (Update mask R) ty
-  side-one (Revert mask) ty = change-one (Revert mask) ty
+  side-one (Add i x) ty = change-one (Add i x) tt ty
+  side-one (Edit i x) ty = change-one (Edit i x) tt ty
+  side-one (Delete i) ty = change-one (Delete i) tt ty
+  side-one (Copy i j) ty = change-one (Copy i j) tt ty
+  side-one (Move i j) ty = change-one (Move i j) tt ty
+  side-one (Commits stamp mask) ty = change-one (Commits stamp mask) tt ty
+  side-one (Update mask R) ty = change-one (Update mask R) tt ty
+  side-one (Revert mask) ty = change-one (Revert mask) tt ty
   side-one (Read R i) ty = look-one (readCall store R i) (Read R i) refl (read-one R i)
   side-one (Show i) ty = look-one (showCall store copy i) (Show i) refl (show-one i)
   side-one (Status i) ty = look-one (statusCall store copy i) (Status i) refl (status-one i)
   side-one (Log R i) ty = look-one (logCall store R i) (Log R i) refl (log-one R i)
+  side-one Clears ty = clear-one
 
 -- ---- one call on buffers that show a state
 
@@ -308,7 +353,7 @@ module _ (N : ℕ) (b : Buffers) (s : State) (k : ℕ) (W : Shows N b s) (K : Ke
 
   -- the machine's step is its side's step, put back
   pub step-side : (o : Option ℕ) (c : Call) → (sideBy o (sideOf s k) c .0 ≡ stepBy o s k c .0) × (put s k (sideBy o (sideOf s k) c .1) ≡ stepBy o s k c .1)
-  step-side (some n) c = (refl, λ i. record { blocks = s .blocks; used = s .used; history = s .history; seats = set-getD (s .seats) (k - 1) [] i })
+  step-side (some n) c = (refl, λ i. record { blocks = s .blocks; used = s .used; tail = s .tail; history = s .history; seats = set-getD (s .seats) (k - 1) [] i })
   step-side none c = (refl, refl)
 
   seat-still : (o : Option ℕ) (c : Call) → sideBy o (sideOf s k) c .1 .seat ≡ k
@@ -319,7 +364,7 @@ module _ (N : ℕ) (b : Buffers) (s : State) (k : ℕ) (W : Shows N b s) (K : Ke
       → (call (b .store) (getD (b .copies) (k - 1) []) c .says ≡ step s k c .0)
       × Shows N (record { store = call (b .store) (getD (b .copies) (k - 1) []) c .store; copies = set (b .copies) (k - 1) (call (b .store) (getD (b .copies) (k - 1) []) c .copy) }) (step s k c .1)
   call-one c ty =
-      let o : Option ℕ = firstOf (conditions (sideOf s k) c) in
+      let o : Option ℕ = firstOf (ownConditions (sideOf s k) c) in
       let r = side-one N (b .store) (getD (b .copies) (k - 1) []) (sideOf s k) (seen-seat N b s k W lo hi) (kept-side s k K lo hi) lo hi c ty in
       let out′ : Out = call (b .store) (getD (b .copies) (k - 1) []) c in (
         r .0 ∙ step-side o c .0,

@@ -1,70 +1,125 @@
--- A store's bytes pass the tests exactly where they are the layout of a history, and that is the history that is read.
+-- A store that no line from 1 to 3 refuses is one with a tail, of the history that is read; and back.
 -- Assumes nothing.
-use Prim.Native.Nat.{_*_, _≤_, ℕ}
-use mathlib.Core.Bool.{_&&_, not, true}
-use mathlib.Core.List.{List, map}
+use Prim.Native.Nat.{_*_, _+_, _-_, _≤_, suc, ℕ}
+use mathlib.Core.Bool.{not, true}
+use mathlib.Core.List.{List, [], _++_, _∷_}
 use mathlib.Core.Option.{none}
-use mathlib.Core.Path.{_∙_, _≡_, ap, subst₂, sym}
+use mathlib.Core.Path.{_∙_, _≡_, ap, ap₂, refl, subst, sym}
 use native.Mathlib.Omega.{arith}
-use lib.Dec.{T}
-use lib.ListN.{length}
-use Rattle.block.proofs.Says.{and-true, is-true, true-and}
-use Rattle.block.specs.Check.{sealed}
+use borrow.Author.Tests.{not-false}
+use lib.Dec.{T, lit≤}
+use lib.ListN.{length, length-append, replicate}
 use Rattle.block.specs.Lists.{all}
-use Rattle.model.specs.Blocks.{FitsBlock, fieldsOf, fitsBlock, parse}
+use Rattle.model.specs.Blocks.{blank, fieldsOf, fitsBlock, parse}
 use Rattle.model.specs.Calls.{storeConditions}
-use Rattle.model.specs.Codec.{joined, parts, shaped}
-use Rattle.model.specs.History.{Bytes, History}
-use Rattle.model.specs.Pass.{ok, readAll}
+use Rattle.model.specs.Codec.{parts, shaped}
+use Rattle.block.specs.Write.{written}
+use Rattle.model.specs.History.{Bytes, History, last}
 use Rattle.model.specs.Refusals.{Clear, firstOf}
-use Rattle.model.specs.Store.{Holds, blockCount, blocksOf, checked, historyOf, lawful, storeHistory}
-use Rattle.laws.proofs.Acceptance.{accepted-lays, lays-accepted}
-use Rattle.laws.proofs.BlockCodes.{block-coded}
-use Rattle.laws.proofs.Codec.{length-parts, parts-so, so-parts}
+use Rattle.model.specs.Store.{Holds, bareIn, bareOf, blanks, blockCount, blocksOf, checkedBut, filledIn, front, historyOf, lawfulBut, stemIn, storeBlocks, storeHistory, tailOf, usedOf}
+use Rattle.model.specs.Tail.{Stored, Tailed, tailBytes}
 use Rattle.laws.proofs.Conditions.{clear, sized-so, so-sized}
-use Rattle.laws.proofs.Rows.{is-T}
-use Rattle.laws.proofs.WorkCopy.{length-joined}
+use Rattle.laws.proofs.Tailing.{bare-tail, checked-tail, filled-tail, history-tail, lawful-tail, length-store}
+use Rattle.laws.proofs.Untailing.{accepted-tailed, blocks-split, front-shaped, shapedIn, shapes-so, stored-bare}
+use Rattle.laws.proofs.Writing.{front-blanks, holds-blocks}
 
--- THE STATEMENT: a store passes exactly where its bytes are the layout of a history, and that is the one that is read
-pub accepted-holds : (n : ℕ) (l : List ℕ) → length l ≡ n * 512 → T (checked n l) → T (lawful n l) → Holds n l (historyOf n l)
-unfolding checked lawful Holds historyOf blocksOf
-accepted-holds n l e t u =
-    let p = and-true (all (shaped fieldsOf parse fitsBlock) (parts n l)) (ok (map parse (parts n l))) u in
-    let q = parts-so fieldsOf parse fitsBlock FitsBlock block-coded n l e t (p .0) in
-    (map parse (parts n l), length-parts fieldsOf parse fitsBlock FitsBlock block-coded n l, q .0, q .1, accepted-lays (map parse (parts n l)) (p .1))
+module _ (store : Bytes) (e : firstOf (storeConditions store) ≡ none) where
+  abbrev n : ℕ
+  n = blockCount store
 
-pub holds-accepted : (n : ℕ) (l : List ℕ) (h : History) → Holds n l h → T (checked n l) × T (lawful n l) × (historyOf n l ≡ h)
-unfolding checked lawful Holds historyOf blocksOf
-holds-accepted n l h m =
-    let bs = m .0 in
-    let p = so-parts fieldsOf parse fitsBlock FitsBlock block-coded bs (m .2) in
-    let q = lays-accepted bs h (m .4) in
-    let ps = parts (length bs) (joined fieldsOf bs) in
-    subst₂ (λ (x : ℕ) (y : List ℕ). T (all sealed (parts x y)) × T (all (shaped fieldsOf parse fitsBlock) (parts x y) && ok (map parse (parts x y))) × (readAll (map parse (parts x y)) ≡ h))
-    (m .1) (m .3)
-    (p .0, true-and (all (shaped fieldsOf parse fitsBlock) ps) (ok (map parse ps)) (p .1) (rw (p .2) (q .0)), rw (p .2) (q .1))
+  sized : length store ≡ n * 512
+  sized = sized-so store (clear (storeConditions store) e .0) .0
 
--- so does a store that no line from 1 to 3 refuses
-pub taken-holds : (store : Bytes) → firstOf (storeConditions store) ≡ none → Holds (blockCount store) store (storeHistory store)
-taken-holds store e =
-    let c = clear (storeConditions store) e in
-    accepted-holds (blockCount store) store (sized-so store (c .0) .0) (is-T (checked (blockCount store) store) (c .1 .0)) (is-T (lawful (blockCount store) store) (c .1 .1 .0))
+  checks : checkedBut n store ≡ true
+  checks = not-false (checkedBut n store) (clear (storeConditions store) e .1 .0)
+
+  laws : lawfulBut n store ≡ true
+  laws = not-false (lawfulBut n store) (clear (storeConditions store) e .1 .1 .0)
+
+  shapes : T (shapedIn n store)
+  shapes = shapes-so n store laws
+
+  -- U is the number of blocks before the tail
+  pub used-stem : usedOf store ≡ stemIn n store
+  used-stem = stored-bare n store sized checks shapes laws .uses
+
+  -- as if the tail were zero blocks
+  pub taken-holds : Holds (blockCount store) (bareOf store) (storeHistory store)
+  taken-holds = stored-bare n store sized checks shapes laws .holds
+
+  -- THE EQUATION for whoever reads: the used blocks are the store's own
+  pub taken-blocks : storeBlocks store ≡ blocksOf (usedOf store) store ++ replicate (blockCount store - usedOf store) blank
+  taken-blocks = blocks-split n store sized checks shapes ∙ ap (λ (u : ℕ). blocksOf u store ++ replicate (n - u) blank) (sym used-stem)
+
+  pub taken-shaped : T (all (shaped fieldsOf parse fitsBlock) (parts (usedOf store) store))
+  taken-shaped = subst (λ (u : ℕ). T (all (shaped fieldsOf parse fitsBlock) (parts u store))) (sym used-stem) (front-shaped n store sized checks shapes)
+
+  pub taken-tailed : Tailed (blockCount store) store (storeHistory store) (usedOf store) (tailOf store)
+  taken-tailed =
+      subst (λ (u : ℕ). Tailed n store (storeHistory store) u (filledIn n store - u)) (sym used-stem) (accepted-tailed n store sized checks shapes laws)
+
+  pub taken-room : usedOf store * 512 ≤ length store
+  taken-room = omega (arith, sized, taken-tailed .room)
 
 -- and back: the numbers of a store that holds a history, what is read, and that no line from 1 to 3 holds
-module _ (N : ℕ) (store : Bytes) (h : History) (H : Holds N store h) where
-  length-held : length store ≡ N * 512
-  unfolding Holds
-  length-held = ap length (sym (H .3)) ∙ length-joined fieldsOf (H .0) ∙ ap (λ (n : ℕ). n * 512) (H .1)
-
+module _ (N : ℕ) (store : Bytes) (h : History) (used t : ℕ) (X : Tailed N store h used t) where
   pub count-held : blockCount store ≡ N
-  count-held = omega (arith, length-held)
+  count-held = omega (arith, length-store N store h used t X)
+
+  pub bare-held : bareOf store ≡ X .bare
+  bare-held = ap (λ (n : ℕ). bareIn n store) count-held ∙ bare-tail N store h used t X
 
   pub history-held : storeHistory store ≡ h
-  history-held = ap (λ (n : ℕ). historyOf n store) count-held ∙ holds-accepted N store h H .2
+  history-held = ap (λ (n : ℕ). historyOf n (bareIn n store)) count-held ∙ history-tail N store h used t X
+
+  pub used-held : usedOf store ≡ used
+  used-held = ap₂ (λ (n : ℕ) (l : Bytes). length (front (blocksOf n l))) count-held bare-held ∙ X .stored .uses
+
+  pub tail-held : tailOf store ≡ t
+  tail-held =
+      let f : filledIn (blockCount store) store ≡ used + t = ap (λ (n : ℕ). filledIn n store) count-held ∙ filled-tail N store h used t X in
+      omega (arith, f, used-held)
 
   pub clear-held : 2 ≤ N → N ≤ 4_096 → Clear (storeConditions store)
   clear-held lo hi =
-      let A = holds-accepted N store h H in
-      let c : checked (blockCount store) store ≡ true = ap (λ (n : ℕ). checked n store) count-held ∙ is-true (checked N store) (A .0) in
-      let l : lawful (blockCount store) store ≡ true = ap (λ (n : ℕ). lawful n store) count-held ∙ is-true (lawful N store) (A .1) in
-      (so-sized N store length-held lo hi, (ap not c, (ap not l, tt)))
+      let c : checkedBut (blockCount store) store ≡ true = ap (λ (n : ℕ). checkedBut n store) count-held ∙ checked-tail N store h used t X in
+      let l : lawfulBut (blockCount store) store ≡ true = ap (λ (n : ℕ). lawfulBut n store) count-held ∙ lawful-tail N store h used t X in
+      (so-sized N store (omega (arith, length-store N store h used t X)) lo hi, (ap not c, (ap not l, tt)))
+
+-- a store without a tail, and back
+pub stored-tailed : (N : ℕ) (store : Bytes) (h : History) (used : ℕ) → Stored N store h used → Tailed N store h used 0
+unfolding written
+stored-tailed N store h used S =
+    let B = holds-blocks N store h (S .holds) in
+    let bs = blocksOf N store in
+    let l : length (front bs) + length (blanks bs) ≡ length bs = sym (length-append (front bs) (blanks bs)) ∙ ap length (front-blanks bs) in
+    record {
+      bare = store;
+      stored = S;
+      contents = [];
+      junk = [];
+      tail = record { few = lit≤ tt; fits = tt; one = lit≤ tt; junk = tt };
+      size = refl;
+      room = omega (arith, l, B .count, S .uses);
+      bytes = refl;
+    }
+
+pub tailed-none : (N : ℕ) (store : Bytes) (h : History) (used : ℕ) (X : Tailed N store h used 0) → X .bare ≡ store
+unfolding written
+tailed-none N store h used X = sym (X .bytes ∙ go (X .contents) (X .junk) (X .size))
+  where
+    go : (cs js : List Bytes) → length cs + length js ≡ 0 → written (512 * used) (tailBytes (suc (last h)) cs js) (X .bare) ≡ X .bare
+    go [] [] e = refl
+    go [] (j ∷ js) e = absurd (omega arith)
+    go (c ∷ cs) js e = absurd (omega arith)
+
+-- a store without a tail is read as it is
+pub bare-stored : (N : ℕ) (store : Bytes) (h : History) (used : ℕ) → Stored N store h used → bareOf store ≡ store
+bare-stored N store h used S =
+    let X = stored-tailed N store h used S in
+    bare-held N store h used 0 X ∙ tailed-none N store h used X
+
+pub tailed-stored : (N : ℕ) (store : Bytes) (h : History) (used t : ℕ) → t ≡ 0 → Tailed N store h used t → Stored N store h used
+tailed-stored N store h used t z X =
+    let Y : Tailed N store h used 0 = subst (Tailed N store h used) z X in
+    subst (λ (b : Bytes). Stored N b h used) (tailed-none N store h used Y) (Y .stored)

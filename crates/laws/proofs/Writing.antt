@@ -19,7 +19,7 @@ use Rattle.model.specs.Layout.{Lays, Table, user}
 use Rattle.model.specs.Machine.{blocksFor, contentOf, count}
 use Rattle.model.specs.Pass.{grown, isBlank, laid, ok, okFrom, tablesAfter, tablesOf}
 use Rattle.model.specs.Rows.{total}
-use Rattle.model.specs.Shows.{Stored}
+use Rattle.model.specs.Tail.{Stored}
 use Rattle.model.specs.Store.{Holds, blanks, blocksOf, front}
 use Rattle.model.specs.Writing.{Plan, contentsFor, linesFor, newBlocks, newContents, newLines, planCopy, planOf, withCommit}
 use Rattle.laws.proofs.Acceptance.{lays-accepted}

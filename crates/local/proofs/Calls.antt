@@ -6,8 +6,8 @@ use mathlib.Core.Option.{Option, none, some}
 use mathlib.Core.Path.{_∙_, _≡_, ap, refl}
 use Rattle.model.specs.Calls.{changeBy, changeCall, copyConditions, refusalOf, sideIn, storeConditions}
 use Rattle.model.specs.History.{Bytes}
-use Rattle.model.specs.Machine.{Add, Call, Commits, Copy, Delete, Edit, Log, Move, Read, Revert, Show, Status, Update}
-use Rattle.model.specs.Refusals.{Clear, Condition, conditions, firstOf}
+use Rattle.model.specs.Machine.{Add, Call, Clears, Commits, Copy, Delete, Edit, Log, Move, Read, Revert, Show, Status, Update}
+use Rattle.model.specs.Refusals.{Clear, Condition, conditions, firstOf, tailConditions}
 use Rattle.laws.proofs.Conditions.{clear-first}
 use Rattle.local.specs.Local.{copySide, localBy, localOut}
 use Rattle.model.specs.Calls as calls
@@ -26,6 +26,7 @@ Local (Read R i) = ⊥
 Local (Show i) = ⊥
 Local (Status i) = ⊥
 Local (Log R i) = ⊥
+Local Clears = ⊥
 
 module _ (store copy : Bytes) where
   same-conditions : (c : Call) → Local c → conditions (sideIn store copy) c ≡ conditions (copySide copy) c
@@ -41,6 +42,22 @@ module _ (store copy : Bytes) where
   same-conditions (Show i) k = absurd k
   same-conditions (Status i) k = absurd k
   same-conditions (Log R i) k = absurd k
+  same-conditions Clears k = absurd k
+
+  no-tail : (c : Call) → Local c → Clear (tailConditions (sideIn store copy) c)
+  no-tail (Add i x) k = tt
+  no-tail (Edit i x) k = tt
+  no-tail (Delete i) k = tt
+  no-tail (Copy i j) k = tt
+  no-tail (Move i j) k = tt
+  no-tail (Commits stamp mask) k = absurd k
+  no-tail (Update mask R) k = absurd k
+  no-tail (Revert mask) k = absurd k
+  no-tail (Read R i) k = absurd k
+  no-tail (Show i) k = absurd k
+  no-tail (Status i) k = absurd k
+  no-tail (Log R i) k = absurd k
+  no-tail Clears k = absurd k
 
   same-deed : (o : Option ℕ) (c : Call) → Local c → changeBy o store copy c ≡ calls.out (localBy o copy c .says) store (localBy o copy c .copy)
   same-deed (some n) c k = refl
@@ -56,13 +73,16 @@ module _ (store copy : Bytes) where
   same-deed none (Show i) k = absurd k
   same-deed none (Status i) k = absurd k
   same-deed none (Log R i) k = absurd k
+  same-deed none Clears k = absurd k
 
   -- THE STATEMENT: where none of refusals 1 to 6 holds
   pub local-call : (c : Call) → Local c → Clear (storeConditions store) → Clear (copyConditions store copy)
       → changeCall store copy c ≡ calls.out (localOut copy c .says) store (localOut copy c .copy)
   unfolding changeCall refusalOf localOut
   local-call c k s t =
+      let ts : List Condition = tailConditions (sideIn store copy) c in
       let cs : List Condition = conditions (sideIn store copy) c in
       ap (λ (o : Option ℕ). changeBy o store copy c)
-      (clear-first (storeConditions store) (copyConditions store copy ++ cs) s ∙ clear-first (copyConditions store copy) cs t ∙ ap firstOf (same-conditions c k))
+      (clear-first (storeConditions store) (ts ++ (copyConditions store copy ++ cs)) s ∙ clear-first ts (copyConditions store copy ++ cs) (no-tail c k)
+      ∙ clear-first (copyConditions store copy) cs t ∙ ap firstOf (same-conditions c k))
       ∙ same-deed (firstOf (conditions (copySide copy) c)) c k

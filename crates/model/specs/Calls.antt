@@ -1,7 +1,7 @@
--- The calls of document 01 on buffers: for each call one total definition, from the bytes of the store and of the caller's working copy and the arguments to the answer and
+-- The calls on buffers: for each call one total definition, from the bytes of the store and of the caller's working copy and the arguments to the answer and
 -- the bytes afterwards. The code's contracts cite these and say nothing else.
 -- A buffer is taken apart by its layout (Store, WorkCopy), the machine's own conditions and deeds rule what happens (Refusals, Machine), and the result is laid out again.
--- Refusals 1 to 6 are conditions on the buffers, 7 to 13 the machine's, in the document's order.
+-- Refusals 1 to 6 are conditions on the buffers, the others the machine's, in the document's order: 14 stands right after 3.
 -- Assumes nothing.
 use Prim.Native.Nat.{_%_, _*_, _+_, _-_, ℕ}
 use mathlib.Core.Bool.{_&&_, _||_, not}
@@ -14,10 +14,10 @@ use Rattle.model.specs.Codec.{joined}
 use Rattle.model.specs.Entry.{empty, ownBytes}
 use Rattle.model.specs.Fitting.{fitsStore}
 use Rattle.model.specs.History.{Bytes, Commit, last, namer}
-use Rattle.model.specs.Machine.{Add, Answer, Call, Commits, Copy, Delete, Edit, Log, Move, Read, Revert, Show, Side, Status, Update, bytes, doing, done, entry, refused}
-use Rattle.model.specs.Refusals.{Condition, _when_, conditions, firstOf}
+use Rattle.model.specs.Machine.{Add, Answer, Call, Clears, Commits, Copy, Delete, Edit, Log, Move, Read, Revert, Show, Side, Status, Update, bytes, doing, done, entry, refused}
+use Rattle.model.specs.Refusals.{Condition, _when_, conditions, firstOf, tailConditions}
 use Rattle.model.specs.Run.{Turn, asked}
-use Rattle.model.specs.Store.{blockCount, blockUsed, checked, lawful, storeBlocks, storeHistory, usedOf}
+use Rattle.model.specs.Store.{bareOf, blockCount, blockUsed, checkedBut, lawfulBut, storeBlocks, storeHistory, tailOf, usedOf}
 use Rattle.model.specs.WorkCopy.{copyBytes, copyOk, entriesOf, seatOf}
 use Rattle.model.specs.Writing.{withCommit}
 
@@ -28,13 +28,14 @@ sideIn store copy = record {
   seat = seatOf copy;
   blocks = blockCount store;
   used = usedOf store;
+  tail = tailOf store;
   history = storeHistory store;
   entries = entriesOf copy;
 }
 
--- "read and log take the store": no seat, no entries
+-- "read and log take the store", and so does clearing: no seat, no entries
 abbrev pub storeSide : Bytes → Side
-storeSide store = record { seat = 0; blocks = blockCount store; used = usedOf store; history = storeHistory store; entries = [] }
+storeSide store = record { seat = 0; blocks = blockCount store; used = usedOf store; tail = tailOf store; history = storeHistory store; entries = [] }
 
 -- ---- refusals 1 to 6
 
@@ -42,9 +43,10 @@ storeSide store = record { seat = 0; blocks = blockCount store; used = usedOf st
 abbrev pub sizeCondition : Bytes → Condition
 sizeCondition store = 1 when (not (eqb (length store % 512) 0) || (ltb (blockCount store) 2 || ltb 4_096 (blockCount store)))
 
--- "2. Some store block's check is wrong .. 3. The store's blocks aren't the layout of a history."
+-- "2. Some store block's check is wrong .. 3. The store's blocks aren't the layout of a history."; "Refusal 2 skips the last block that isn't all zero, unless it is the
+-- label, and 3 allows the tail."
 abbrev pub storeConditions : Bytes → List Condition
-storeConditions store = sizeCondition store ∷ 2 when not (checked (blockCount store) store) ∷ 3 when not (lawful (blockCount store) store) ∷ []
+storeConditions store = sizeCondition store ∷ 2 when not (checkedBut (blockCount store) store) ∷ 3 when not (lawfulBut (blockCount store) store) ∷ []
 
 -- "4. The working copy's length isn't 16,896."
 abbrev pub copySizeCondition : Bytes → Condition
@@ -56,7 +58,7 @@ copyConditions store copy = copySizeCondition copy ∷ 5 when not (copyOk copy) 
 
 -- "Create takes the buffer it makes, read and log take the store, every other call takes both; lines on a buffer not taken are skipped."
 abbrev pub bothConditions : Bytes → Bytes → Call → List Condition
-bothConditions store copy c = storeConditions store ++ (copyConditions store copy ++ conditions (sideIn store copy) c)
+bothConditions store copy c = storeConditions store ++ (tailConditions (sideIn store copy) c ++ (copyConditions store copy ++ conditions (sideIn store copy) c))
 
 abbrev pub storeOnlyConditions : Bytes → Call → List Condition
 storeOnlyConditions store c = storeConditions store ++ conditions (storeSide store) c
@@ -144,6 +146,12 @@ createStore store = createBy (firstOf (sizeCondition store ∷ [])) store (fresh
 unfoldable pub createCopy : Bytes → ℕ → Created
 createCopy copy seat = createBy (firstOf (createCopyConditions copy seat)) copy (freshCopy seat)
 
+-- ---- clearing, on the store alone
+
+-- "A new call on the store alone clears the tail, writing zero blocks from its highest block down; without a tail it changes nothing."
+unfoldable pub clearCall : Bytes → Created
+clearCall store = createBy (storeRefusal store Clears) store (bareOf store)
+
 -- ---- looking: no buffer changes
 
 -- "answers the refusal, or buffer, place and length"; a place is a byte's number in that buffer. W3: of a part of the store also the last commit that names the sheet, up to the
@@ -228,6 +236,7 @@ call store copy (Read R i) = out (readCall store R i) store copy
 call store copy (Show i) = out (showCall store copy i) store copy
 call store copy (Status i) = out (statusCall store copy i) store copy
 call store copy (Log R i) = out (logCall store R i) store copy
+call store copy Clears = out (clearCall store .says) (clearCall store .buffer) copy
 
 -- the conditions of a call in the document's order, on the buffers that it takes
 abbrev pub conditionsIn : Bytes → Bytes → Call → List Condition
@@ -243,6 +252,7 @@ conditionsIn store copy (Read R i) = storeOnlyConditions store (Read R i)
 conditionsIn store copy (Show i) = bothConditions store copy (Show i)
 conditionsIn store copy (Status i) = bothConditions store copy (Status i)
 conditionsIn store copy (Log R i) = storeOnlyConditions store (Log R i)
+conditionsIn store copy Clears = storeOnlyConditions store Clears
 
 -- ---- a list of calls on one store and four working copies, each on what the one before left
 

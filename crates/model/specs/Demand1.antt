@@ -6,18 +6,24 @@ use Prim.Native.Nat.{ℕ}
 use mathlib.Core.List.{[], _∷_}
 use mathlib.Core.Logic.{_↔_}
 use mathlib.Core.Path.{_≡_}
-use Rattle.model.specs.Calls.{Out, bothConditions, call, conditionsIn, createCopy, createCopyConditions, createStore, freshCopy, freshStore, out, sideIn, sizeCondition, storeOnlyConditions, storeSide}
+use Rattle.model.specs.Calls.{Created, Out, bothConditions, call, clearCall, conditionsIn, createCopy, createCopyConditions, createStore, freshCopy, freshStore, out, sideIn, sizeCondition, storeConditions, storeOnlyConditions, storeSide}
 use Rattle.model.specs.History.{Bytes}
 use Rattle.model.specs.Machine.{Call, Log, Read, doing, done, refused}
 use Rattle.model.specs.Refusals.{Clear, First}
 use Rattle.model.specs.Run.{Typed}
 use Rattle.model.specs.Shows.{Seen}
-use Rattle.model.specs.Store.{blockCount}
+use Rattle.model.specs.Store.{blockCount, storeHistory, usedOf}
+use Rattle.model.specs.Tail.{Tailed}
 
 -- a call was done on the two buffers: it answers as the machine does on what they hold, and they hold what the machine leaves
 pub record DoneOn (store copy : Bytes) (c : Call) (o : Out) : Type 0 where
   pub says : o .says ≡ doing (sideIn store copy) c .0
   pub holds : Seen (blockCount store) (o .store) (o .copy) (doing (sideIn store copy) c .1)
+
+-- the tail was cleared: the history and U are as they were, and there is no tail
+pub record Cleared (store : Bytes) (o : Created) : Type 0 where
+  pub says : o .says ≡ done
+  pub holds : Tailed (blockCount store) (o .buffer) (storeHistory store) (usedOf store) 0
 
 -- of one call on these bytes
 pub record Refuses (store copy : Bytes) (c : Call) : Type 0 where
@@ -33,6 +39,8 @@ pub record Demand1 (store copy : Bytes) : Type 0 where
   -- read and log, which take the store
   pub reads : (R i : ℕ) → Clear (storeOnlyConditions store (Read R i)) → call store copy (Read R i) ≡ out (doing (storeSide store) (Read R i) .0) store copy
   pub logs : (R i : ℕ) → Clear (storeOnlyConditions store (Log R i)) → call store copy (Log R i) ≡ out (doing (storeSide store) (Log R i) .0) store copy
+  -- clearing, which takes the store
+  pub clears : Clear (storeConditions store) → Cleared store (clearCall store)
   -- create
   pub store-numbered : (n : ℕ) → (createStore store .says ≡ refused n) ↔ First (sizeCondition store ∷ []) n
   pub store-stays : (n : ℕ) → createStore store .says ≡ refused n → createStore store .buffer ≡ store

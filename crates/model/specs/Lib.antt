@@ -9,6 +9,7 @@ pub mod Codec
 pub mod Layout
 pub mod Pass
 pub mod Store
+pub mod Tail
 pub mod WorkCopy
 pub mod Fitting
 pub mod Writing
@@ -23,3 +24,4 @@ pub mod Order
 pub mod Ordered
 pub mod SameEdit
 pub mod SetBy
+pub mod HalfWritten

@@ -11,10 +11,12 @@ use Rattle.model.specs.Entry.{Entry, added, changeFor, copied, deleted, 
 use Rattle.model.specs.History.{Bytes, Change, Commit, History, add, change, changeOf, commitAt, copy, delete, isBytes, last, namedAfter, namer, names, newest, nothing, present, sheet}
 use Rattle.model.specs.Rows.{rows, total}
 
--- "the store's block count N; used blocks U, 1 when fresh; the history, a list of commits, empty when fresh; for each seat 32 entries"
+-- "the store's block count N; used blocks U, 1 when fresh; the history, a list of commits, empty when fresh; for each seat 32 entries"; and the number of blocks in the
+-- store's tail, which are none of the U
 pub record State : Type 0 where
   pub blocks : ℕ
   pub used : ℕ
+  pub tail : ℕ
   pub history : History
   pub seats : List (List Entry)
 
@@ -23,10 +25,11 @@ pub record Side : Type 0 where
   pub seat : ℕ
   pub blocks : ℕ
   pub used : ℕ
+  pub tail : ℕ
   pub history : History
   pub entries : List Entry
 
--- the calls with their arguments: sheet and bytes; from and to; stamp and mask; mask and revision; revision and sheet
+-- the calls with their arguments: sheet and bytes; from and to; stamp and mask; mask and revision; revision and sheet. `Clears` clears the tail
 pub data Call : Type 0 where
   Add Edit : ℕ → Bytes → Call
   Delete : ℕ → Call
@@ -37,6 +40,7 @@ pub data Call : Type 0 where
   Read : ℕ → ℕ → Call
   Show Status : ℕ → Call
   Log : ℕ → ℕ → Call
+  Clears : Call
 
 -- what a call answers: the number of a refusal; that it is done; a commit's revision; a sheet's bytes, and a status, each with the last commit that names the sheet (W3); seat,
 -- stamp, m, action, source sheet and source revision of a commit
@@ -59,20 +63,23 @@ refusal (logged seat stamp m a i R) = none
 
 -- "used blocks U, 1 when fresh; the history .. empty when fresh; .. Fresh entries are empty."
 abbrev pub fresh : ℕ → State
-fresh n = record { blocks = n; used = 1; history = []; seats = replicate 4 (replicate 32 empty) }
+fresh n = record { blocks = n; used = 1; tail = 0; history = []; seats = replicate 4 (replicate 32 empty) }
 
 -- the side of seat k, and a state with the side of seat k put back
 abbrev pub sideOf : State → ℕ → Side
-sideOf s k = record { seat = k; blocks = s .blocks; used = s .used; history = s .history; entries = getD (s .seats) (k - 1) [] }
+sideOf s k = record { seat = k; blocks = s .blocks; used = s .used; tail = s .tail; history = s .history; entries = getD (s .seats) (k - 1) [] }
 
 abbrev pub put : State → ℕ → Side → State
-put s k d = record { blocks = d .blocks; used = d .used; history = d .history; seats = set (s .seats) (k - 1) (d .entries) }
+put s k d = record { blocks = d .blocks; used = d .used; tail = d .tail; history = d .history; seats = set (s .seats) (k - 1) (d .entries) }
 
 abbrev pub entry : Side → ℕ → Entry
 entry d i = getD (d .entries) i empty
 
 abbrev pub withEntries : Side → List Entry → Side
-withEntries d es = record { seat = d .seat; blocks = d .blocks; used = d .used; history = d .history; entries = es }
+withEntries d es = record { seat = d .seat; blocks = d .blocks; used = d .used; tail = d .tail; history = d .history; entries = es }
+
+abbrev pub withTail : Side → ℕ → Side
+withTail d t = record { seat = d .seat; blocks = d .blocks; used = d .used; tail = t; history = d .history; entries = d .entries }
 
 abbrev pub withEntry : Side → ℕ → Entry → Side
 withEntry d i e = withEntries d (set (d .entries) i e)
@@ -145,6 +152,7 @@ committing d stamp mask = record {
   seat = d .seat;
   blocks = d .blocks;
   used = d .used + blocksFor (d .history) (commitChanges (d .history) mask (d .entries));
+  tail = d .tail;
   history = d .history ++ (newCommit d stamp mask ∷ []);
   entries = committed (d .history) mask (d .entries);
 }
@@ -253,3 +261,4 @@ doing d (Show i) =
     (asBytes (shownNamer (ownBytes (entry d i)) (namer (d .history) (last (d .history)) i)) (shown (ownBytes (entry d i)) (newest (d .history) i)), d)
 doing d (Status i) = (status (statusOf (d .history) i (entry d i)) (namer (d .history) (last (d .history)) i), d)
 doing d (Log R i) = (logOf (commitAt (d .history) R) i, d)
+doing d Clears = (done, withTail d 0)

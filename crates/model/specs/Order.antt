@@ -81,7 +81,7 @@ filled n bs = bs ++ replicate (n - length bs) blank
 unfoldable pub storeBytes : ℕ → History → Bytes
 storeBytes N h = joined fieldsOf (label ∷ filled (N - 1) (commitsBlocks [] (replicate 32 0 ∷ []) 1 h))
 
--- a store, in whatever order it is written, with the commits g added: its used blocks as they are, the blocks of g, all-zero blocks
+-- a store, in whatever order it is written, with the commits g added: its used blocks as they are, the blocks of g, all-zero blocks, none of a tail
 unfoldable pub continued : Bytes → History → Bytes
 continued store g =
     take (512 * usedOf store) store

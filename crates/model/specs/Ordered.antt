@@ -18,7 +18,7 @@ use Rattle.model.specs.Order.{InOrder, continued, storeBytes}
 use Rattle.model.specs.Refusals.{firstOf}
 use Rattle.model.specs.Run.{AllValid, Turn, accepted}
 use Rattle.model.specs.Shows.{AllAccepted, stateIn}
-use Rattle.model.specs.Store.{front, storeBlocks, usedOf}
+use Rattle.model.specs.Store.{bareOf, front, storeBlocks, tailOf, usedOf}
 
 -- the commit c was added to a store, as revision R
 pub record Appends (store store′ : Bytes) (c : Commit) (R : ℕ) : Type 0 where
@@ -46,8 +46,8 @@ pub record Ordered : Type 0 where
       → Appends store (commitCall store copy stamp mask .store) (newCommit (sideIn store copy) stamp mask) R
   -- "Stores already written in another order are still accepted and read.": every layout of a history is, and the layout leaves the order of changes and of contents free
   pub another : (store : Bytes) (h : History) → LaidStore store h → ReadAs store h
-  -- any list of calls on accepted buffers, in whatever order the store is written
-  pub lists : (b : Buffers) (ts : List Turn) → AllAccepted b → AllValid ts → runOn b ts .store ≡ continued (b .store) (accepted (stateIn b) ts)
+  -- any list of calls on accepted buffers, in whatever order the store is written; of what they leave, a tail counts as zero blocks
+  pub lists : (b : Buffers) (ts : List Turn) → AllAccepted b → AllValid ts → bareOf (runOn b ts .store) ≡ continued (b .store) (accepted (stateIn b) ts)
   -- any list of calls from a fresh store of N blocks and four fresh copies: the bytes follow from N and the accepted commits alone
   pub bytes : (N : ℕ) (ts : List Turn) → 2 ≤ N → N ≤ 4_096 → AllValid ts → runOn (freshBuffers N) ts .store ≡ storeBytes N (accepted (fresh N) ts)
   -- "Two fresh stores of one size whose calls make the same history then hold equal bytes.", whatever the calls, seats and refusals were
@@ -56,5 +56,5 @@ pub record Ordered : Type 0 where
   -- and back: equal bytes are the same history
   pub back : (N : ℕ) (ts us : List Turn) → 2 ≤ N → N ≤ 4_096 → AllValid ts → AllValid us → runOn (freshBuffers N) ts .store ≡ runOn (freshBuffers N) us .store
       → accepted (fresh N) ts ≡ accepted (fresh N) us
-  -- the bytes of every sound history that N blocks have room for are a store that is accepted and read as that history
-  pub holds : (N : ℕ) (h : History) → 2 ≤ N → N ≤ 4_096 → Sound h → usedBy h ≤ N → LaidStore (storeBytes N h) h
+  -- the bytes of every sound history that N blocks have room for are a store without a tail that is accepted and read as that history
+  pub holds : (N : ℕ) (h : History) → 2 ≤ N → N ≤ 4_096 → Sound h → usedBy h ≤ N → LaidStore (storeBytes N h) h × (tailOf (storeBytes N h) ≡ 0)

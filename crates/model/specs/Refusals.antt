@@ -1,4 +1,4 @@
--- "When the engine says no", the lines numbered 7 to 13: for each call its conditions, in the document's order, and the first that holds.
+-- "When the engine says no", the lines numbered 7 to 14: for each call its conditions, in the document's order, and the first that holds.
 -- Assumes nothing.
 use Prim.Native.Nat.{_+_, ℕ}
 use mathlib.Core.Bool.{Bool, _&&_, _||_, cond, false, not, true}
@@ -10,7 +10,7 @@ use lib.Dec.{eqb, ltb}
 use lib.ListN.{length}
 use Rattle.model.specs.Entry.{Entry, added, copied, deleted, empty, isEmpty, modified, normal, ownBytes, pending}
 use Rattle.model.specs.History.{History, last, namedAfter, newest, present, sheet}
-use Rattle.model.specs.Machine.{Add, Call, Commits, Copy, Delete, Edit, Log, Move, Read, Revert, Show, Side, Status, Update, blocksFor, chosen, commitChanges, entry, shown, updatedTo}
+use Rattle.model.specs.Machine.{Add, Call, Clears, Commits, Copy, Delete, Edit, Log, Move, Read, Revert, Show, Side, Status, Update, blocksFor, chosen, commitChanges, entry, shown, updatedTo}
 use Rattle.model.specs.Rows.{some-row}
 
 infix 70 _when_
@@ -82,6 +82,23 @@ conditions d (Read R i) = 7 when (noSheet i || tooLate (d .history) R) ∷ 8 whe
 conditions d (Show i) = 7 when noSheet i ∷ 8 when not (present (shown (ownBytes (entry d i)) (newest (d .history) i))) ∷ []
 conditions d (Status i) = 7 when noSheet i ∷ []
 conditions d (Log R i) = 7 when (noSheet i || (eqb R 0 || tooLate (d .history) R)) ∷ []
+conditions d Clears = []
+
+-- "14, commit on a store that has a tail, checked right after 3"
+abbrev pub tailConditions : Side → Call → List Condition
+tailConditions d (Add i x) = []
+tailConditions d (Edit i x) = []
+tailConditions d (Delete i) = []
+tailConditions d (Copy i j) = []
+tailConditions d (Move i j) = []
+tailConditions d (Commits stamp mask) = 14 when not (eqb (d .tail) 0) ∷ []
+tailConditions d (Update mask R) = []
+tailConditions d (Revert mask) = []
+tailConditions d (Read R i) = []
+tailConditions d (Show i) = []
+tailConditions d (Status i) = []
+tailConditions d (Log R i) = []
+tailConditions d Clears = []
 
 -- the number of the first line that holds
 abbrev pub firstOf : List Condition → Option ℕ

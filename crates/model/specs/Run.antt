@@ -6,8 +6,12 @@ use mathlib.Core.List.{List, [], _++_, _∷_}
 use mathlib.Core.Option.{Option, none, some}
 use Rattle.block.specs.Lists.{All}
 use Rattle.model.specs.History.{Commit}
-use Rattle.model.specs.Machine.{Add, Answer, Call, Commits, Copy, Delete, Edit, Log, Move, Read, Revert, Show, Side, State, Status, Update, bytes, doing, done, logged, newCommit, put, refused, revision, sideOf, status}
-use Rattle.model.specs.Refusals.{conditions, firstOf}
+use Rattle.model.specs.Machine.{Add, Answer, Call, Clears, Commits, Copy, Delete, Edit, Log, Move, Read, Revert, Show, Side, State, Status, Update, bytes, doing, done, logged, newCommit, put, refused, revision, sideOf, status}
+use Rattle.model.specs.Refusals.{Condition, conditions, firstOf, tailConditions}
+
+-- the lines that are the machine's own, in the document's order
+abbrev pub ownConditions : Side → Call → List Condition
+ownConditions d c = tailConditions d c ++ conditions d c
 
 -- one seat's side of a step
 abbrev pub sideBy : Option ℕ → Side → Call → Answer × Side
@@ -15,7 +19,7 @@ sideBy (some n) d c = (refused n, d)
 sideBy none d c = doing d c
 
 abbrev pub sideStep : Side → Call → Answer × Side
-sideStep d c = sideBy (firstOf (conditions d c)) d c
+sideStep d c = sideBy (firstOf (ownConditions d c)) d c
 
 -- "A call that a refusal numbered 7 or higher names answers that number and leaves the state; every other call is done, and a commit answers its revision"
 abbrev pub stepBy : Option ℕ → State → ℕ → Call → Answer × State
@@ -23,7 +27,7 @@ stepBy (some n) s k c = (refused n, s)
 stepBy none s k c = let r = doing (sideOf s k) c in (r .0, put s k (r .1))
 
 abbrev pub step : State → ℕ → Call → Answer × State
-step s k c = stepBy (firstOf (conditions (sideOf s k) c)) s k c
+step s k c = stepBy (firstOf (ownConditions (sideOf s k) c)) s k c
 
 -- a call with its seat
 pub record Turn : Type 0 where
@@ -53,6 +57,7 @@ asked d (Read R i) = []
 asked d (Show i) = []
 asked d (Status i) = []
 asked d (Log R i) = []
+asked d Clears = []
 
 abbrev pub isRevision : Answer → Bool
 isRevision (refused n) = false
@@ -84,6 +89,7 @@ Typed (Read R i) = Unit {0}
 Typed (Show i) = Unit {0}
 Typed (Status i) = Unit {0}
 Typed (Log R i) = Unit {0}
+Typed Clears = Unit {0}
 
 pub record Valid (t : Turn) : Type 0 where
   pub low : 1 ≤ t .by

@@ -14,7 +14,7 @@ use Rattle.model.specs.Entry.{Entry, added, copied, deleted, empty, modi
 use Rattle.model.specs.History.{Bytes, History, isBytes, last, namer, present, sheet}
 use Rattle.model.specs.Machine.{asIn, chosen, done, refused, sameNamer, status}
 use Rattle.model.specs.Shows.{Accepted}
-use Rattle.model.specs.Store.{storeHistory}
+use Rattle.model.specs.Store.{storeHistory, tailOf}
 use Rattle.model.specs.WorkCopy.{entriesOf}
 
 -- "a .. modified, added or copied entry whose bytes equal tree R's": those of its own sheet, which tree R has
@@ -76,12 +76,13 @@ pub record Agreeing (store copy : Bytes) (h : History) (es : List Entry) : Type 
   -- "Refusal 12 loses these cases.": an entry that agrees was a conflict
   pub lost : (R i : ℕ) → R ≤ last h → agrees h R i (getD es i empty) ≡ true → formerly h R i (getD es i empty) ≡ none
   pub updates : (mask R : ℕ) → Updates h es mask R (updateCall store copy mask R)
-  -- commit and status are as they were: an entry that agrees with the last tree is out of date (11), and where it is normal it needs merge (4)
-  pub stale : (stamp mask i : ℕ) → i < 32 → chosen mask i ≡ true → agrees h (last h) i (getD es i empty) ≡ true → commitCall store copy stamp mask .says ≡ refused 11
+  -- commit and status are as they were: an entry that agrees with the last tree is out of date (11; on a store that has a tail 14 comes before it), and where it is normal it
+  -- needs merge (4)
+  pub stale : tailOf store ≡ 0 → (stamp mask i : ℕ) → i < 32 → chosen mask i ≡ true → agrees h (last h) i (getD es i empty) ≡ true → commitCall store copy stamp mask .says ≡ refused 11
   pub needsMerge : (i b : ℕ) (x : Bytes) → i < 32 → getD es i empty ≡ normal b x → agrees h (last h) i (normal b x) ≡ true → statusCall store copy i ≡ status 4 (namer h (last h) i)
   -- where every chosen entry agrees with tree R or is not pending, the update is done, and then nothing chosen is pending (10)
   pub settles : (stamp mask R : ℕ) → (mask ≡ 0 → ⊥) → R ≤ last h → AllAgree h mask R es
-      → (updateCall store copy mask R .says ≡ done) × (commitCall (updateCall store copy mask R .store) (updateCall store copy mask R .copy) stamp mask .says ≡ refused 10)
+      → (updateCall store copy mask R .says ≡ done) × (tailOf store ≡ 0 → commitCall (updateCall store copy mask R .store) (updateCall store copy mask R .copy) stamp mask .says ≡ refused 10)
 
 -- THE STATEMENT
 abbrev pub SameEdit : Type 0

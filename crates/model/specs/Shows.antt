@@ -6,16 +6,12 @@ use mathlib.Core.Option.{none}
 use mathlib.Core.Path.{_≡_}
 use lib.ListN.{getD, length}
 use Rattle.model.specs.Calls.{Buffers, copyConditions, storeConditions}
-use Rattle.model.specs.History.{Bytes, History}
+use Rattle.model.specs.History.{Bytes}
 use Rattle.model.specs.Machine.{Side, State}
 use Rattle.model.specs.Refusals.{firstOf}
-use Rattle.model.specs.Store.{Holds, blockCount, blocksOf, front, storeHistory, usedOf}
+use Rattle.model.specs.Store.{blockCount, storeHistory, tailOf, usedOf}
+use Rattle.model.specs.Tail.{Tailed}
 use Rattle.model.specs.WorkCopy.{HoldsCopy, entriesOf, seatOf}
-
--- a store of N blocks is the layout of the history, and U blocks stand before the all-zero ones
-pub record Stored (N : ℕ) (store : Bytes) (h : History) (used : ℕ) : Type 0 where
-  pub holds : Holds N store h
-  pub uses : length (front (blocksOf N store)) ≡ used
 
 -- no line from 1 to 6 holds: what a function may ask for that is called after these were looked at
 pub record Accepted (store copy : Bytes) : Type 0 where
@@ -27,7 +23,7 @@ pub record Seen (N : ℕ) (store copy : Bytes) (d : Side) : Type 0 where
   pub few : 2 ≤ N
   pub many : N ≤ 4_096
   pub blocks : d .blocks ≡ N
-  pub stored : Stored N store (d .history) (d .used)
+  pub stored : Tailed N store (d .history) (d .used) (d .tail)
   pub copied : HoldsCopy copy (d .seat) (d .entries)
 
 -- "The history in a store and the entries in a copy are those whose layout, by the next section, the buffer is."
@@ -35,14 +31,14 @@ pub record Shows (N : ℕ) (b : Buffers) (s : State) : Type 0 where
   pub few : 2 ≤ N
   pub many : N ≤ 4_096
   pub blocks : s .blocks ≡ N
-  pub store : Stored N (b .store) (s .history) (s .used)
+  pub store : Tailed N (b .store) (s .history) (s .used) (s .tail)
   pub four : length (b .copies) ≡ 4
   pub copies : (k : ℕ) → k < 4 → HoldsCopy (getD (b .copies) k []) (suc k) (getD (s .seats) k [])
 
 -- ---- buffers that someone else left: the state that they show, if they are accepted
 
 abbrev pub stateIn : Buffers → State
-stateIn b = record { blocks = blockCount (b .store); used = usedOf (b .store); history = storeHistory (b .store); seats = map entriesOf (b .copies) }
+stateIn b = record { blocks = blockCount (b .store); used = usedOf (b .store); tail = tailOf (b .store); history = storeHistory (b .store); seats = map entriesOf (b .copies) }
 
 -- four copies, of seats 1 to 4 in order, each accepted with the store
 pub record AllAccepted (b : Buffers) : Type 0 where

@@ -13,7 +13,7 @@ use Rattle.model.specs.declared.Entry.{Entry as TheEntry}
 use Rattle.model.specs.declared.Place.{Place as ThePlace}
 use Rattle.model.specs.declared.Place.the-variants.{InCopy, InStore, Refused as NoPlace}
 use Rattle.model.specs.declared.Refusal.{Refusal}
-use Rattle.model.specs.declared.Refusal.the-variants.{Conflict, CopyLayout, CopyLength, Missing, NoRoom, NothingPending, Occupied, OutOfDate, Range, StoreCheck, StoreLayout, StoreLength, Unfit}
+use Rattle.model.specs.declared.Refusal.the-variants.{Conflict, CopyLayout, CopyLength, Missing, NoRoom, NothingPending, Occupied, OutOfDate, Range, StoreCheck, StoreLayout, StoreLength, Tail, Unfit}
 use Rattle.model.specs.declared.State.{State}
 use Rattle.model.specs.declared.State.the-variants.{Added, Copied, Deleted, Empty, Normal}
 
@@ -32,6 +32,7 @@ numberOf NothingPending = 10
 numberOf OutOfDate = 11
 numberOf Conflict = 12
 numberOf NoRoom = 13
+numberOf Tail = 14
 
 -- an entry in this state, with these bytes
 abbrev pub entryAs : State → Bytes → Entry

@@ -1,6 +1,6 @@
 // The types of the engine's arguments and answers. What each means in the document's numbers and values is defined in specs/Types.antt.
 
-// The lines of "When the engine says no", in the document's order.
+// The lines of "When the engine says no", by their numbers.
 pub enum Refusal {
     StoreLength,
     StoreCheck,
@@ -15,6 +15,7 @@ pub enum Refusal {
     OutOfDate,
     Conflict,
     NoRoom,
+    Tail,
 }
 
 // Where a copied entry comes from: sheet and revision.

@@ -19,9 +19,9 @@ use Rattle.laws.proofs.Rows.{or-false}
 use Rattle.laws.proofs.Trees.{Small, small-tree}
 use Rattle.model.specs.History.{Bytes, last, namer, sheet}
 use Rattle.model.specs.Invariant.{Kept}
-use Rattle.model.specs.Machine.{Add, Call, Commits, Copy, Delete, Edit, Log, Move, Read, Revert, Show, State, Status, Update, asBytes, fresh, sideOf}
+use Rattle.model.specs.Machine.{Add, Call, Clears, Commits, Copy, Delete, Edit, Log, Move, Read, Revert, Show, State, Status, Update, asBytes, fresh, sideOf}
 use Rattle.model.specs.Refusals.{conditions, firstOf, noSheet, tooLate}
-use Rattle.model.specs.Run.{Turn, Valid, stepBy}
+use Rattle.model.specs.Run.{Turn, Valid, ownConditions, stepBy}
 use Rattle.text.proofs.Laws.{length-decimal, length-hex}
 use Rattle.text.specs.Text.{decimalOf, heads, hexOf, lines, numberOf, words}
 use Rattle.program.specs.Output.{answered, output, textOf, transcript, unknown}
@@ -72,6 +72,7 @@ Room n (Read R i) = 8 ≤ n
 Room n (Show i) = ⊥
 Room n (Status i) = Unit {0}
 Room n (Log R i) = Unit {0}
+Room n Clears = Unit {0}
 
 abbrev Roomy : ℕ → Option Turn → Type 0
 Roomy n o = Every (λ (t : Turn). Room n (t .call)) o
@@ -188,7 +189,7 @@ sheet-text : (n : ℕ) (o : Option Bytes) → Small o → length (textOf (asByte
 sheet-text n none p = omega (arith, number-text 110 111 32 8)
 sheet-text n (some x) p = simp length-append (omega (arith, length-hex x, p .size))
 
-answer-room : (s : State) (k n : ℕ) (c : Call) (o : Option ℕ) → firstOf (conditions (sideOf s k) c) ≡ o → Kept s → 1 ≤ n → Room n c → length (textOf (stepBy o s k c .0)) ≤ 121 * n
+answer-room : (s : State) (k n : ℕ) (c : Call) (o : Option ℕ) → firstOf (ownConditions (sideOf s k) c) ≡ o → Kept s → 1 ≤ n → Room n c → length (textOf (stepBy o s k c .0)) ≤ 121 * n
 answer-room s k n c (some m) e K h r = omega (arith, number-text 110 111 32 m)
 answer-room s k n (Add i x) none e K h r = omega arith
 answer-room s k n (Edit i x) none e K h r = omega arith
@@ -205,10 +206,11 @@ answer-room s k n (Read R i) none e K h r =
 answer-room s k n (Show i) none e K h r = absurd r
 answer-room s k n (Status i) none e K h r = omega arith
 answer-room s k n (Log R i) none e K h r = omega arith
+answer-room s k n Clears none e K h r = omega arith
 
 text-room : (s : State) (n : ℕ) (o : Option Turn) → Roomy n o → Kept s → 1 ≤ n → length (answered s o .0) ≤ 121 * n
 text-room s n none r K h = omega arith
-text-room s n (some t) r K h = answer-room s (t .by) n (t .call) (firstOf (conditions (sideOf s (t .by)) (t .call))) refl K h r
+text-room s n (some t) r K h = answer-room s (t .by) n (t .call) (firstOf (ownConditions (sideOf s (t .by)) (t .call))) refl K h r
 
 line-kept : (s : State) (o : Option Turn) → ((t : Turn) → o ≡ some t → Valid t) → Kept s → Kept (answered s o .1)
 line-kept s none v K = K

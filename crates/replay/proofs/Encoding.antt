@@ -15,7 +15,7 @@ use Rattle.inner.specs.Performs.{callOf}
 use Rattle.laws.proofs.All.{all-append}
 use Rattle.laws.proofs.Codec.{four-back, two-back}
 use Rattle.model.specs.History.{Bytes}
-use Rattle.model.specs.Machine.{Add, Call, Commits, Copy, Delete, Edit, Log, Move, Read, Revert, Show, Status, Update}
+use Rattle.model.specs.Machine.{Add, Call, Clears, Commits, Copy, Delete, Edit, Log, Move, Read, Revert, Show, Status, Update}
 use Rattle.model.specs.Run.{Turn, Typed}
 use Rattle.replay.specs.Encoding.{AllRecorded, Recorded, Row, recordBy, rowOf, scriptOf}
 use Rattle.replay.specs.Script.{bytesIn, callAs, callIn, recordOk, scriptOk, turnIn, turnsFrom, turnsOf}
@@ -63,9 +63,9 @@ module _ (seat : ℕ) (r : Row) (room : length (r .bytes) ≤ 496) where
   turn-back : turnIn (recordBy seat r) ≡ record { by = seat; call = callOf (callAs (r .kind) (r .first) (r .second)) (r .bytes) }
   turn-back = λ i. record { by = seat-back i; call = callOf (call-back i) (bytes-back i) }
 
-  good-back : 1 ≤ r .kind → r .kind ≤ 12 → 1 ≤ seat → seat ≤ 4 → recordOk (recordBy seat r) ≡ true
+  good-back : 1 ≤ r .kind → r .kind ≤ 13 → 1 ≤ seat → seat ≤ 4 → recordOk (recordBy seat r) ≡ true
   unfolding recordOk
-  good-back lo hi low high = rw (kind-back, seat-back, count-back, le-leb 1 (r .kind) lo, le-leb (r .kind) 12 hi, le-leb 1 seat low, le-leb seat 4 high, le-leb (length (r .bytes)) 496 room)
+  good-back lo hi low high = rw (kind-back, seat-back, count-back, le-leb 1 (r .kind) lo, le-leb (r .kind) 13 hi, le-leb 1 seat low, le-leb seat 4 high, le-leb (length (r .bytes)) 496 room)
 
 row-back : (c : Call) → callOf (callAs (rowOf c .kind) (rowOf c .first) (rowOf c .second)) (rowOf c .bytes) ≡ c
 row-back (Add i x) = refl
@@ -80,8 +80,9 @@ row-back (Read R i) = refl
 row-back (Show i) = refl
 row-back (Status i) = refl
 row-back (Log R i) = refl
+row-back Clears = refl
 
-kind-in : (c : Call) → (1 ≤ rowOf c .kind) × (rowOf c .kind ≤ 12)
+kind-in : (c : Call) → (1 ≤ rowOf c .kind) × (rowOf c .kind ≤ 13)
 kind-in (Add i x) = (omega arith, omega arith)
 kind-in (Edit i x) = (omega arith, omega arith)
 kind-in (Delete i) = (omega arith, omega arith)
@@ -94,6 +95,7 @@ kind-in (Read R i) = (omega arith, omega arith)
 kind-in (Show i) = (omega arith, omega arith)
 kind-in (Status i) = (omega arith, omega arith)
 kind-in (Log R i) = (omega arith, omega arith)
+kind-in Clears = (omega arith, omega arith)
 
 abbrev Byte : ℕ → Type 0
 Byte x = x < 256
@@ -111,6 +113,7 @@ typed-bytes (Read R i) t = tt
 typed-bytes (Show i) t = tt
 typed-bytes (Status i) t = tt
 typed-bytes (Log R i) t = tt
+typed-bytes Clears t = tt
 
 all-four : (n : ℕ) → n < 2 ^ 32 → (l : Bytes) → All Byte l → All Byte (four n l)
 all-four n h l a = (omega arith, (omega arith, (omega arith, (omega (arith, h), a))))

@@ -24,6 +24,7 @@ use Rattle.model.specs.Order.{continued, storeBytes}
 use Rattle.model.specs.Refusals.{Condition, _when_, firstOf}
 use Rattle.model.specs.Run.{AllValid, Turn, accepted, answers}
 use Rattle.model.specs.Shows.{AllAccepted, stateIn}
+use Rattle.model.specs.Store.{bareOf}
 use Rattle.model.specs.Types.{answerOf}
 use Rattle.model.specs.declared.Answer.{Answer as TheAnswer}
 use Rattle.replay.proofs.Demand3.{was-done}
@@ -61,8 +62,8 @@ pub record ReplayOrdered : Type 2 where
   pub another : (κs : Lfts 4) (s x y z s′ x′ y′ z′ : RefT Bytes) (r : TheAnswer) → replay-reads.Learnt κs (s, (x, (y, (z, tt)))) r (s′, (x′, (y′, (z′, tt))))
       → (h : History) → LaidStore (now x) h → Taken (now s) (buffersIn (now x) (now y)) (now z) h r (now z′)
   -- "From now on a commit writes its changes by rising sheet number, and its content blocks in the order of the changes that point to them.": behind the blocks in use, which stay, in
-  -- whatever order they are, the commits that were accepted
-  pub scripts : {script store copies store′ : Bytes} → Ran script store copies store′ → store′ ≡ continued store (accepted (stateIn (buffersIn store copies)) (turnsOf script))
+  -- whatever order they are, the commits that were accepted; a tail that is left counts as zero blocks
+  pub scripts : {script store copies store′ : Bytes} → Ran script store copies store′ → bareOf store′ ≡ continued store (accepted (stateIn (buffersIn store copies)) (turnsOf script))
   -- from a fresh store of N blocks and four fresh copies: the bytes follow from N and the accepted commits alone
   pub bytes : (N : ℕ) → 2 ≤ N → N ≤ 4_096 → {script store copies store′ : Bytes} → Ran script store copies store′ → buffersIn store copies ≡ freshBuffers N
       → store′ ≡ storeBytes N (commitsOf N script)
@@ -132,7 +133,7 @@ any-layout κs s x y z s′ x′ y′ z′ r L h l =
     let after : Desk = desk (now x′) (now y′) (now z′) in
     record {
       refusals = λ n q. not-for-store (now s) (now x) (now y) (now z) n (D .store-accepted .1 (h, l)) (sym (answered o (turnsOf (now s)) before after (L .is)) ∙ ap refusal q);
-      history = D .store-read h l;
+      history = D .store-read h l .0;
       answer = λ q. L .machine (was-done o (turnsOf (now s)) before after (L .is) q .0) .answer;
     }
 
@@ -145,7 +146,7 @@ pub replay-ordered : ReplayOrdered
 replay-ordered = record {
   replay-meets = λ M. replay-met.met;
   another = any-layout;
-  scripts = λ {script} {store} {copies} p. let o = ran-on p in o .left ∙ ordered .lists (buffersIn store copies) (turnsOf script) (o .taken) (o .valid);
+  scripts = λ {script} {store} {copies} p. let o = ran-on p in ap bareOf (o .left) ∙ ordered .lists (buffersIn store copies) (turnsOf script) (o .taken) (o .valid);
   bytes = λ N lo hi {script} p e. let o = ran-on p in fresh-left N o e ∙ ordered .bytes N (turnsOf script) lo hi (o .valid);
   equal = λ N lo hi {s} {t} p q e f same.
       let o = ran-on p in

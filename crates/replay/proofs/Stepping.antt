@@ -43,7 +43,7 @@ pub good-limits : (r : Bytes) → recordOk r ≡ true → (1 ≤ getD r 1 0) × 
 unfolding recordOk
 good-limits r e =
     let a = both (leb 1 (getD r 0 0)) _ e in
-    let b = both (leb (getD r 0 0) 12) _ (a .1) in
+    let b = both (leb (getD r 0 0) 13) _ (a .1) in
     let c = both (leb 1 (getD r 1 0)) _ (b .1) in
     let d = both (leb (getD r 1 0) 4) (leb (twoAt r 2) 496) (c .1) in
     (leb-true 1 (getD r 1 0) (c .0), leb-true (getD r 1 0) 4 (d .0), leb-true (twoAt r 2) 496 (d .1))
@@ -64,7 +64,8 @@ typed-call x all k a b small =
     (λ e. cond-any P (eqb k 8) (λ e. tt)
     (λ e. cond-any P (eqb k 9) (λ e. tt)
     (λ e. cond-any P (eqb k 10) (λ e. tt)
-    (λ e. cond-any P (eqb k 11) (λ e. tt) (λ e. tt)))))))))))
+    (λ e. cond-any P (eqb k 11) (λ e. tt)
+    (λ e. cond-any P (eqb k 12) (λ e. tt) (λ e. tt))))))))))))
   where
     P : Call → Type 0
     P c = Typed (callOf c x)

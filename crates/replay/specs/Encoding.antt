@@ -5,7 +5,7 @@ use mathlib.Core.List.{List, [], _++_, _∷_}
 use lib.ListN.{length, replicate}
 use Rattle.block.specs.Field.{four, two}
 use Rattle.model.specs.History.{Bytes}
-use Rattle.model.specs.Machine.{Add, Call, Commits, Copy, Delete, Edit, Log, Move, Read, Revert, Show, Status, Update}
+use Rattle.model.specs.Machine.{Add, Call, Clears, Commits, Copy, Delete, Edit, Log, Move, Read, Revert, Show, Status, Update}
 use Rattle.model.specs.Run.{Turn, Valid}
 
 -- a call's kind, its numbers and its bytes
@@ -31,6 +31,7 @@ rowOf (Read R i) = row 9 R i []
 rowOf (Show i) = row 10 i 0 []
 rowOf (Status i) = row 11 i 0 []
 rowOf (Log R i) = row 12 R i []
+rowOf Clears = row 13 0 0 []
 
 unfoldable pub recordBy : ℕ → Row → Bytes
 recordBy seat r = r .kind ∷ seat ∷ two (length (r .bytes)) (four (r .first) (four (r .second) (0 ∷ 0 ∷ 0 ∷ 0 ∷ (r .bytes ++ replicate (496 - length (r .bytes)) 0))))

@@ -40,7 +40,7 @@ fn record_ok(rec: &[u8]) -> bool
     if kind < 1 {
         return false;
     }
-    if 12 < kind {
+    if 13 < kind {
         return false;
     }
     if seat < 1 {
@@ -112,7 +112,10 @@ fn decode(rec: &[u8]) -> Call
     if kind == 11 {
         return Call::Status(a);
     }
-    Call::Log(a, b)
+    if kind == 12 {
+        return Call::Log(a, b);
+    }
+    Call::Clear
 }
 
 // ---- the records of the answers

@@ -1,7 +1,7 @@
 -- What is found in an accepted store: the search back finds the block that the tree's table has and the last commit that names the sheet; that block is 0 exactly
 -- where the tree lacks the sheet, else it holds the sheet's bytes, and it is a used block.
 -- Assumes nothing.
-use Prim.Native.Nat.{_*_, _+_, _/_, _<_, _≤_, ℕ}
+use Prim.Native.Nat.{_*_, _+_, _<_, _≤_, ℕ}
 use mathlib.Core.Bool.{false}
 use mathlib.Core.List.{List, [], _++_, _∷_, map}
 use mathlib.Core.Logic.{_↔_}
@@ -12,21 +12,25 @@ use lib.Dec.{T}
 use lib.ListN.{getD, length, replicate}
 use Rattle.block.specs.Lists.{All}
 use Rattle.model.specs.Blocks.{Block, blank, bytesAt}
-use Rattle.model.specs.History.{Bytes, last, namer, present, sheet, tree}
+use Rattle.model.specs.History.{Bytes, History, last, namer, present, sheet, tree}
 use Rattle.model.specs.Layout.{Lays, Table}
 use Rattle.model.specs.Pass.{ok, readAll, tablesOf}
-use Rattle.model.specs.Store.{blanks, blockCount, blockUsed, blocksOf, front, historyOf, storeBlocks, storeHistory, usedOf}
-use Rattle.laws.proofs.Acceptance.{accepted-lays}
+use Rattle.model.specs.Store.{bareOf, blanks, blockCount, blockUsed, blocksOf, front, historyOf, storeBlocks, storeHistory, usedOf}
+use Rattle.model.specs.declared.Span.{Span}
+use Rattle.laws.proofs.Acceptance.{accepted-lays, lays-accepted}
 use Rattle.laws.proofs.All.{All-getD}
 use Rattle.laws.proofs.Append.{Below}
 use Rattle.laws.proofs.Bridge.{absent-iff, has, tables-trail, trail-blanks}
 use Rattle.laws.proofs.Grows.{tables-below}
+use Rattle.laws.proofs.Store.{taken-holds}
 use Rattle.laws.proofs.Tables.{slot, tables-trees, trailOf}
-use Rattle.laws.proofs.Writing.{blank-rest, front-blanks, no-blank, some-front}
+use Rattle.laws.proofs.Used.{own-bytes, own-room}
+use Rattle.laws.proofs.Writing.{blank-rest, front-blanks, holds-blocks, no-blank, some-front}
 use Rattle.search.proofs.Naming.{named-last}
-use Rattle.search.proofs.Revisions.{okAll, passed, used-high}
+use Rattle.search.proofs.Revisions.{passed, same-history, same-tables}
 use Rattle.search.proofs.Sought.{sought}
-use Rattle.search.specs.Find.{Accepted, Bound, back, foundIn}
+use Rattle.search.specs.Find.{Accepted, Bound, back, foundIn, spanOf}
+use Rattle.store.proofs.Blocks.{bytes-in}
 use Rattle.store.proofs.Opening.{open-accepted}
 use Rattle.store.specs.Opened.{openOf}
 use Rattle.store.specs.declared.Header.{Header}
@@ -53,23 +57,35 @@ tables-low bs t =
     (sym (front-tables (front bs) (blanks bs) (some-front bs t) (blank-rest bs t)) ∙ ap tablesOf e)
     (tables-below (front bs) (blanks bs) (readAll bs) (no-blank bs) (some-front bs t) L)
 
+abbrev spanAs : ℕ → ℕ → Span
+spanAs a k = record { start = a; len = k }
+
 -- a store that is open is accepted
 pub open-asked : (s : Bytes) (h : Header) → openOf s ≡ Open h → Accepted s (blockCount s) (h .used)
 open-asked s h e = let w = open-accepted s h e in record { clear = w .0; count = refl; inUse = w .2 }
 
 module _ (s : Bytes) (n used : ℕ) (A : Accepted s n used) where
   all-ok : T (ok (storeBlocks s))
-  all-ok = subst (λ (m : ℕ). T (ok (blocksOf m s))) (A .count) (okAll s n used (passed s n used A))
+  all-ok = lays-accepted (storeBlocks s) (storeHistory s) (holds-blocks (blockCount s) (bareOf s) (storeHistory s) (taken-holds s (A .clear)) .lays) .0
 
   -- what the search back finds
-  pub found-is : (r b i : ℕ) → Bound s used r b → r ≤ last (storeHistory s) → i < 32 → back (blocksOf n s) i b ≡ foundIn s r i
+  pub found-is : (r b i : ℕ) → Bound s used r b → r ≤ last (storeHistory s) → i < 32 → back (blocksOf used s) i b ≡ foundIn s r i
   found-is r b i G h g =
       let P = passed s n used A in
-      let e : n ≡ length s / 512 = A .count in
-      let h' : r ≤ length (historyOf n s) = subst (λ (m : ℕ). r ≤ length (historyOf m s)) (sym e) h in
-      let x : back (blocksOf n s) i b .block ≡ blockUsed s r i = sought s n used r b i P G h' g ∙ ap (λ (m : ℕ). getD (getD (tablesOf (blocksOf m s)) r []) i 0) e in
-      let y : back (blocksOf n s) i b .revision ≡ namer (storeHistory s) r i = named-last s n used r b i P G h' g ∙ ap (λ (m : ℕ). namer (historyOf m s) r i) e in
+      let q = same-history s n used A in
+      let h' : r ≤ length (historyOf used s) = subst (λ (x : History). r ≤ length x) (sym q) h in
+      let x : back (blocksOf used s) i b .block ≡ blockUsed s r i = sought s used used r b i P G h' g ∙ ap (λ (t : List Table). getD (getD t r []) i 0) (same-tables s n used A) in
+      let y : back (blocksOf used s) i b .revision ≡ namer (storeHistory s) r i = named-last s used used r b i P G h' g ∙ ap (λ (x : History). namer x r i) q in
       λ j. record { block = x j; revision = y j }
+
+  -- a used block holds what it is read as
+  pub block-bytes : (p : ℕ) → p < usedOf s → (p < blockCount s) × (bytesAt (blocksOf (blockCount s) s) p ≡ bytesAt (storeBlocks s) p)
+  block-bytes p h =
+      let b : p < blockCount s = omega (arith, own-room s (A .clear)) in
+      (b, bytes-in (blockCount s) p s b ∙ sym (own-bytes s (A .clear) p h ∙ bytes-in (usedOf s) p s h))
+
+  pub block-span : (p : ℕ) → p < usedOf s → _≡_ {A = Span} (spanOf s p) (record { start = 512 * p + 16; len = length (bytesAt (storeBlocks s) p) })
+  block-span p h = ap (λ (x : Bytes). spanAs (512 * p + 16) (length x)) (block-bytes p h .1)
 
   -- THE STATEMENTS: a sheet uses a block of the store
   pub block-used : (r i : ℕ) → blockUsed s r i < usedOf s
@@ -78,12 +94,7 @@ module _ (s : Bytes) (n used : ℕ) (A : Accepted s n used) where
       All-getD (λ (p : ℕ). p < usedOf s) (getD (tablesOf bs) r []) i 0 (All-getD (Below (usedOf s)) (tablesOf bs) r [] (tables-low bs all-ok) tt) (omega (arith, some-front bs all-ok))
 
   pub block-inside : (r i : ℕ) → (blockUsed s r i < blockCount s) × (512 * blockUsed s r i + 512 ≤ length s)
-  block-inside r i =
-      let P = passed s n used A in
-      let e : n ≡ length s / 512 = A .count in
-      let u : used ≡ usedOf s = A .inUse in
-      let b : blockUsed s r i < blockCount s = omega (arith, block-used r i, used-high s n used P) in
-      (b, omega (arith, P .whole))
+  block-inside r i = let b = block-used r i in let w = own-room s (A .clear) in (omega arith, omega arith)
 
   module _ (r i : ℕ) (h : r ≤ last (storeHistory s)) where
     table-tree : map (slot (bytesAt (storeBlocks s))) (getD (tablesOf (storeBlocks s)) r []) ≡ tree (storeHistory s) r

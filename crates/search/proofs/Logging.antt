@@ -25,13 +25,12 @@ use Rattle.laws.proofs.Accepting.{count-lines, total-puts}
 use Rattle.laws.proofs.All.{All-map}
 use Rattle.search.proofs.BackLaws.{few-changes}
 use Rattle.search.proofs.DeedLaws.{does-lines}
-use Rattle.search.proofs.Revisions.{Passed, count, count-one, counted, okAll, opened, passed, rev-at, used-high, used-is, usedIn}
+use Rattle.search.proofs.Revisions.{Passed, count, count-one, counted, first-read, okAll, opened, passed, rev-at, same-history, used-high, used-is, usedIn}
 use Rattle.search.specs.Deed.{deedIn}
 use Rattle.search.specs.Find.{Accepted, Bound, revAt}
 use Rattle.shape.proofs.Shapes.{length-parse}
 use Rattle.shape.specs.Shape.{kindOf}
 use Rattle.store.proofs.Blocks.{block-at, lent, part-size}
-use Rattle.store.proofs.OpenLaws.{first-read}
 use Rattle.store.proofs.PassLaws.{commitOf, parse-commit}
 
 -- block p is a commit block, and the history has its commit
@@ -74,28 +73,28 @@ commit-there look at k tables (commit r s q ls ∷ bs) t (suc p) h c =
     record { revision = w .revision; seat = w .seat; stamp = w .stamp; lines = w .lines; is = w .is; states = w .states; many = w .many }
 
 module _ (s : Bytes) (n used : ℕ) (A : Accepted s n used) (r b : ℕ) (G : Bound s used r b) (low : 1 ≤ r) (high : r ≤ last (storeHistory s)) where
-  P : Passed s n used
+  P : Passed s used used
   P = passed s n used A
 
-  high' : r ≤ length (historyOf n s)
-  high' = subst (λ (m : ℕ). r ≤ length (historyOf m s)) (sym (A .count)) high
+  high' : r ≤ length (historyOf used s)
+  high' = subst (λ (x : History). r ≤ length x) (sym (same-history s n used A)) high
 
   abbrev rest : List Block
-  rest = opened (blocksOf n s) (okAll s n used P) .0
+  rest = opened (blocksOf used s) (okAll s used used P) .0
 
   abbrev look : ℕ → List ℕ
-  look = bytesAt (blocksOf n s)
+  look = bytesAt (blocksOf used s)
 
   far : 2 ≤ b
-  far = go b (counted s n used P r b G high')
+  far = go b (counted s used used P r b G high')
     where
       go : (x : ℕ) → count (take (x - 1) rest) ≡ r → 2 ≤ x
       go zero e = absurd (omega (arith, e))
       go (suc zero) e = absurd (omega (arith, e))
       go (suc (suc x)) e = omega arith
 
-  before-in : b - 1 < n
-  before-in = omega (arith, far, G .high, used-high s n used P)
+  before-in : b - 1 < used
+  before-in = omega (arith, far, G .high, used-high s used used P)
 
   pub before-part : (b - 1 < 4_096) × ((b - 1) * 512 + 512 ≤ length s)
   before-part = (omega (arith, before-in, P .few), omega (arith, before-in, P .whole))
@@ -103,19 +102,19 @@ module _ (s : Bytes) (n used : ℕ) (A : Accepted s n used) (r b : ℕ) (G : Bou
   -- r − 1 commits stand before it
   just : count (take (b - 2) rest) ≡ r - 1
   just =
-      let v = rev-at s n used P (b - 1) (omega (arith, far)) (omega (arith, far, G .high)) in
+      let v = rev-at s used used P (b - 1) (omega (arith, far)) (omega (arith, far, G .high)) in
       let w = G .before (b - 1) (omega (arith, far)) (omega (arith, far)) in
       let d : b - 1 - 1 ≡ b - 2 = omega arith in
       let v' : revAt s (b - 1) ≡ 1 + count (take (b - 2) rest) = subst (λ (x : ℕ). revAt s (b - 1) ≡ 1 + count (take x rest)) d v in
       let e : b - 2 + 1 ≡ b - 1 = omega (arith, far) in
       let o = subst (λ (x : ℕ). count (take x rest) ≤ count (take (b - 2) rest) + 1) e (count-one rest (b - 2)) in
-      omega (arith, v', w, o, counted s n used P r b G high')
+      omega (arith, v', w, o, counted s used used P r b G high')
 
   there : CommitAt look rest (b - 2)
   there =
       let e : suc (b - 2) ≡ b - 1 = omega (arith, far) in
-      let m = subst (λ (x : ℕ). count (take x rest) ≡ r) (sym e) (counted s n used P r b G high') in
-      commit-there look 1 0 (replicate 32 0 ∷ []) rest (opened (blocksOf n s) (okAll s n used P) .2) (b - 2) (omega (arith, far, G .high, used-is s n used P)) (omega (arith, m, just))
+      let m = subst (λ (x : ℕ). count (take x rest) ≡ r) (sym e) (counted s used used P r b G high') in
+      commit-there look 1 0 (replicate 32 0 ∷ []) rest (opened (blocksOf used s) (okAll s used used P) .2) (b - 2) (omega (arith, far, G .high, used-is s used used P)) (omega (arith, m, just))
 
   abbrev bytes : List ℕ
   bytes = lent s (b - 1)
@@ -123,8 +122,8 @@ module _ (s : Bytes) (n used : ℕ) (A : Accepted s n used) (r b : ℕ) (G : Bou
   parsed : parse bytes ≡ commit (there .revision) (there .seat) (there .stamp) (there .lines)
   parsed =
       let e : suc (b - 2) ≡ b - 1 = omega (arith, far) in
-      sym (block-at n (b - 1) s before-in)
-      ∙ ap (λ (x : List Block). getD x (b - 1) blank) (opened (blocksOf n s) (okAll s n used P) .1)
+      sym (block-at used (b - 1) s before-in)
+      ∙ ap (λ (x : List Block). getD x (b - 1) blank) (opened (blocksOf used s) (okAll s used used P) .1)
       ∙ ap (λ (x : ℕ). getD (label ∷ rest) x blank) (sym e)
       ∙ there .is
 
@@ -132,10 +131,10 @@ module _ (s : Bytes) (n used : ℕ) (A : Accepted s n used) (r b : ℕ) (G : Bou
   before-commit = ap kindOf parsed
 
   pub before-few : twoAt bytes 2 ≤ 32
-  before-few = few-changes n (b - 1) s (P .laws) before-in before-commit
+  before-few = few-changes used (b - 1) s (P .laws) before-in before-commit
 
   pub before-size : length bytes ≡ 512
-  before-size = part-size s n (b - 1) (P .whole) before-in
+  before-size = part-size s used (b - 1) (P .whole) before-in
 
   fields : commitOf bytes ≡ commit (there .revision) (there .seat) (there .stamp) (there .lines)
   fields = sym (parse-commit bytes before-commit) ∙ parsed
@@ -143,8 +142,8 @@ module _ (s : Bytes) (n used : ℕ) (A : Accepted s n used) (r b : ℕ) (G : Bou
   its-commit : commitAt (storeHistory s) r ≡ stated look (there .seat) (there .stamp) (there .lines)
   unfolding historyOf
   its-commit =
-      ap (λ (m : ℕ). getD (historyOf m s) (r - 1) noCommit) (sym (A .count))
-      ∙ ap (λ (x : History). getD x (r - 1) noCommit) (first-read (blocksOf n s) rest (opened (blocksOf n s) (okAll s n used P) .1))
+      ap (λ (x : History). getD x (r - 1) noCommit) (sym (same-history s n used A))
+      ∙ ap (λ (x : History). getD x (r - 1) noCommit) (first-read (blocksOf used s) rest (opened (blocksOf used s) (okAll s used used P) .1))
       ∙ ap (λ (x : ℕ). getD (readFrom look rest) x noCommit) (sym just)
       ∙ there .states
 

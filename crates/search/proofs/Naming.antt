@@ -20,11 +20,10 @@ use Rattle.model.specs.Store.{blocksOf, historyOf}
 use Rattle.laws.proofs.Acceptance.{no-change, places}
 use Rattle.laws.proofs.Puts.{length-puts}
 use Rattle.laws.proofs.Trees.{namer-append}
-use Rattle.search.proofs.Revisions.{Passed, count, counted, kinds, okAll, opened, states, stating, used-few, used-is, usedIn}
+use Rattle.search.proofs.Revisions.{Passed, count, counted, first-read, kinds, okAll, opened, states, stating, used-few, used-is, usedIn}
 use Rattle.search.specs.Find.{Bound, back, hitIn, inBlock}
 use Rattle.search.specs.declared.Found.{Found}
 use Rattle.shape.specs.Shape.{kindOf}
-use Rattle.store.proofs.OpenLaws.{first-read}
 
 -- ---- a commit
 

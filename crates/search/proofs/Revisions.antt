@@ -1,13 +1,12 @@
 -- The revisions that the blocks of an accepted store state: one more than the commits before.
 -- Assumes nothing.
-use Prim.Native.Nat.{_*_, _+_, _-_, _/_, _<_, _≤_, suc, zero, ℕ}
+use Prim.Native.Nat.{_*_, _+_, _-_, _<_, _≤_, suc, zero, ℕ}
 use mathlib.Core.Bool.{_&&_, true}
 use mathlib.Core.List.{List, [], _∷_}
 use mathlib.Core.Logic.{inl, inr}
 use mathlib.Core.Path.{_∙_, _≡_, ap, refl, subst, sym}
 use native.Mathlib.Numerals.{add-one}
 use native.Mathlib.Omega.{arith}
-use borrow.Author.Tests.{not-false}
 use lib.Dec.{T, eqb, eqb→eq}
 use lib.ListN.{getD, length, length-append, replicate, take}
 use Rattle.block.proofs.Says.{and-true, eq-or}
@@ -18,38 +17,50 @@ use Rattle.model.specs.Calls.{storeConditions}
 use Rattle.model.specs.Codec.{parts, shaped}
 use Rattle.model.specs.History.{Commit}
 use Rattle.model.specs.Layout.{Table, latest, next}
-use Rattle.model.specs.Pass.{grown, laid, ok, okFrom, readFrom}
-use Rattle.model.specs.Store.{blockCount, blocksOf, front, historyOf, lawful}
+use Rattle.model.specs.Pass.{grown, laid, ok, okFrom, readAll, readFrom, tablesOf}
+use Rattle.model.specs.Store.{blocksOf, front, historyOf, lawful, storeBlocks, storeHistory, usedOf}
 use Rattle.laws.proofs.Conditions.{clear, sized-so}
 use Rattle.laws.proofs.Tables.{trail}
+use Rattle.laws.proofs.Used.{own-history, own-lawful, own-room, own-tables, own-used}
 use Rattle.search.specs.Find.{Accepted, Bound, revAt}
 use Rattle.shape.specs.Shape.{kindOf}
 use Rattle.store.proofs.Blocks.{block-at, length-blocks, lent, lent-is}
-use Rattle.store.proofs.OpenLaws.{first-read}
 use Rattle.store.proofs.PassLaws.{parse-commit, parse-content, parse-low}
 
 -- how many blocks are used
 abbrev pub usedIn : List Block → ℕ
 usedIn bs = length (front bs)
 
--- what is asked of a store, taken apart
+-- n blocks at the start of a store that lay out a history, with U of them used
 pub record Passed (s : List ℕ) (n used : ℕ) : Type 0 where
-  pub whole : length s ≡ n * 512
+  pub whole : n * 512 ≤ length s
   pub few : n ≤ 4_096
   pub laws : lawful n s ≡ true
   pub inUse : used ≡ usedIn (blocksOf n s)
 
-pub passed : (s : List ℕ) (n used : ℕ) → Accepted s n used → Passed s n used
+-- what is asked of a store, taken apart: its used blocks
+pub passed : (s : List ℕ) (n used : ℕ) → Accepted s n used → Passed s used used
 passed s n used A =
-    let c = clear (storeConditions s) (A .clear) in
-    let o = sized-so s (c .0) in
-    let e : n ≡ length s / 512 = A .count in
+    let o = sized-so s (clear (storeConditions s) (A .clear) .0) in
+    let u : used ≡ usedOf s = A .inUse in
+    let w : used * 512 ≤ length s = subst (λ (m : ℕ). m * 512 ≤ length s) (sym u) (own-room s (A .clear)) in
     record {
-      whole = omega (arith, o .0);
-      few = omega (arith, o .2);
-      laws = subst (λ (m : ℕ). lawful m s ≡ true) (sym e) (not-false (lawful (blockCount s) s) (c .1 .1 .0));
-      inUse = A .inUse ∙ ap (λ (m : ℕ). usedIn (blocksOf m s)) (sym e);
+      whole = w;
+      few = omega (arith, o .0, o .2);
+      laws = subst (λ (m : ℕ). lawful m s ≡ true) (sym u) (own-lawful s (A .clear));
+      inUse = u ∙ sym (ap (λ (m : ℕ). usedIn (blocksOf m s)) u ∙ own-used s (A .clear));
     }
+
+-- and what is read off them
+pub same-history : (s : List ℕ) (n used : ℕ) → Accepted s n used → historyOf used s ≡ storeHistory s
+same-history s n used A = ap (λ (m : ℕ). historyOf m s) (A .inUse) ∙ own-history s (A .clear)
+
+pub same-tables : (s : List ℕ) (n used : ℕ) → Accepted s n used → tablesOf (blocksOf used s) ≡ tablesOf (storeBlocks s)
+same-tables s n used A = ap (λ (m : ℕ). tablesOf (blocksOf m s)) (A .inUse) ∙ own-tables s (A .clear)
+
+pub first-read : (bs rest : List Block) → bs ≡ label ∷ rest → readAll bs ≡ readFrom (bytesAt bs) rest
+unfolding readAll
+first-read bs rest e = subst (λ (x : List Block). readAll x ≡ readFrom (bytesAt x) rest) (sym e) refl
 
 -- how many commits
 abbrev pub count : List Block → ℕ

@@ -12,7 +12,7 @@ use Rattle.model.specs.Blocks.{Block, Line, blank, bytesAt, commit, content, la
 use Rattle.model.specs.Calls.{storeConditions}
 use Rattle.model.specs.History.{Bytes, namer}
 use Rattle.model.specs.Refusals.{firstOf}
-use Rattle.model.specs.Store.{blockCount, blockUsed, storeBlocks, storeHistory, usedOf}
+use Rattle.model.specs.Store.{blockCount, blockUsed, blocksOf, storeHistory, usedOf}
 use Rattle.model.specs.declared.Span.{Span}
 use Rattle.search.specs.declared.Found.{Found}
 
@@ -59,7 +59,7 @@ foundIn store R i = record { block = blockUsed store R i; revision = namer (stor
 
 -- the bytes that block p holds: from its byte 16
 abbrev pub spanOf : Bytes → ℕ → Span
-spanOf store p = record { start = 512 * p + 16; len = length (bytesAt (storeBlocks store) p) }
+spanOf store p = record { start = 512 * p + 16; len = length (bytesAt (blocksOf (blockCount store) store) p) }
 
 -- .. and they stand in the store
 pub record Spanned (store : Bytes) (p : ℕ) (x : Span) : Type 0 where

@@ -44,8 +44,8 @@ fn bound(store: &[u8], n: usize, used: usize, r: usize) -> usize
 
 // The newest change of sheet i in the commits before block `end`.
 fn find(store: &[u8], n: usize, used: usize, end: usize, i: usize) -> Found
-    requires { ⌜ Accepted (now store) n used × (end ≤ n) ⌝ }
-    ensures { λ x. ⌜ x ≡ back (blocksOf n (now (store .entry))) i end ⌝ }
+    requires { ⌜ Accepted (now store) n used × (end ≤ used) ⌝ }
+    ensures { λ x. ⌜ x ≡ back (blocksOf used (now (store .entry))) i end ⌝ }
 {
     let mut found = Found {
         block: 0,

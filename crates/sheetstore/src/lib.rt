@@ -4,7 +4,7 @@ use model::Answer;
 use model::LogEntry;
 use model::Place;
 ghost use mathlib.Core.Path.{_≡_};
-ghost use Rattle.model.specs.Calls.{addCall, commitCall, copyCall, createCopy, createStore, deleteCall, editCall, logCall, moveCall, readPlace, revertCall, showPlace, statusCall, updateCall};
+ghost use Rattle.model.specs.Calls.{addCall, clearCall, commitCall, copyCall, createCopy, createStore, deleteCall, editCall, logCall, moveCall, readPlace, revertCall, showPlace, statusCall, updateCall};
 ghost use Rattle.model.specs.Types.{answerOf, placeOf};
 ghost use Rattle.model.specs.declared.Answer.the-variants.{Logged};
 ghost use Rattle.sheetstore.specs.Numbers.{answerNumbers, both, bothNumbers, copyNumbers, left, leftNumbers, logNumbers, noLog, noStanding, partNumbers, standingNumbers};
@@ -290,6 +290,14 @@ pub extern "C" fn sheets_revert(store: &[u8], copy: &mut [u8], mask: u32) -> She
     ensures { λ r. ⌜ left r (now (copy .exit)) ≡ copyNumbers (revertCall (now (store .entry)) (now (copy .entry)) mask) ⌝ }
 {
     answer_numbers(engine::revert(store, copy, mask))
+}
+
+// The blocks of the store's tail become zero blocks, from the highest down; the history stays.
+#[no_mangle]
+pub extern "C" fn sheets_clear(store: &mut [u8]) -> SheetsAnswer
+    ensures { λ r. ⌜ left r (now (store .exit)) ≡ leftNumbers (clearCall (now (store .entry))) ⌝ }
+{
+    answer_numbers(engine::clear(store))
 }
 
 // Where the bytes that a seat sees of a sheet stand: its own in the working copy, else the last revision's in the store.

@@ -23,7 +23,7 @@ lent s p = take (p * 512 + 512 - p * 512) (drop (p * 512) s)
 pub lent-is : (s : List ℕ) (p : ℕ) → lent s p ≡ take 512 (drop (p * 512) s)
 lent-is s p = let e : p * 512 + 512 - p * 512 ≡ 512 = omega arith in ap (λ (k : ℕ). take k (drop (p * 512) s)) e
 
-pub part-size : (s : List ℕ) (n p : ℕ) → length s ≡ n * 512 → p < n → length (lent s p) ≡ 512
+pub part-size : (s : List ℕ) (n p : ℕ) → n * 512 ≤ length s → p < n → length (lent s p) ≡ 512
 part-size s n p e h = simp (length-take, length-drop) (omega arith)
 
 -- a test of every part: what is left from part p on

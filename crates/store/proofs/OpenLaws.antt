@@ -1,51 +1,90 @@
 -- Opening a store: each refusal in its order, and the pass.
 -- Assumes nothing.
-use Prim.Native.Nat.{_%_, _*_, _+_, _/_, _<_, _≤_, suc, zero, ℕ}
-use mathlib.Core.Bool.{Bool, cond, false, not, true}
-use mathlib.Core.List.{List, [], _∷_}
+use Prim.Native.Nat.{_%_, _*_, _-_, _/_, _<_, _≤_, suc, zero, ℕ}
+use mathlib.Core.Bool.{Bool, _&&_, cond, false, not, true}
+use mathlib.Core.List.{List, [], _++_, _∷_}
 use mathlib.Core.Option.{none, some}
-use mathlib.Core.Path.{_∙_, _≡_, ap, refl, subst, sym}
+use mathlib.Core.Path.{_∙_, _≡_, ap, ap₂, refl, subst, sym}
 use native.Mathlib.Omega.{arith}
 use borrow.Author.Tests.{eq-eqb, le-ltb, lt-ltb, ne-eqb}
+use lib.Dec.{T, eqb}
 use lib.ListN.{drop, length, length-replicate, replicate, take}
+use Rattle.block.proofs.Says.{is-true}
 use Rattle.block.specs.Lists.{all}
 use Rattle.model.specs.Blocks.{Block, blank, bytesAt, commit, content, fieldsOf, fitsBlock, label, parse}
 use Rattle.model.specs.Codec.{parts, shaped}
 use Rattle.model.specs.Layout.{Table}
-use Rattle.model.specs.Pass.{ok, okFrom, readAll, readFrom}
-use Rattle.model.specs.Store.{blocksOf, checked, front, historyOf, lawful}
+use Rattle.model.specs.Pass.{ok}
+use Rattle.model.specs.Store.{bareIn, blocksOf, checked, checkedBut, countedBy, filledIn, front, historyOf, lawful, lawfulBut, onStem, stem, stemIn, wholeBy, wholeIn}
 use Rattle.model.specs.declared.Refusal.the-variants.{StoreCheck, StoreLayout, StoreLength}
+use Rattle.laws.proofs.Untailing.{bare-shaped, bare-stem, shapedIn}
 use Rattle.shape.specs.Rows.{rowsOf}
 use Rattle.shape.specs.Shape.{kindOf}
-use Rattle.store.proofs.Blocks.{lent}
+use Rattle.store.proofs.Blocks.{length-blocks, lent}
+use Rattle.store.proofs.Judged.{bareBlocks, headOf, judged, judged-passed, judgedBy}
 use Rattle.store.proofs.PassLaws.{parse-label, rest-step}
 use Rattle.store.specs.Known.{Fresh}
 use Rattle.store.specs.Opened.{openOf, openedBy, passed, passedAll}
 use Rattle.store.specs.declared.Header.{Header}
 use Rattle.store.specs.declared.Opened.the-variants.{Open, Refused}
 
-first-ok : (bs rest : List Block) → bs ≡ label ∷ rest → ok bs ≡ okFrom (bytesAt bs) 1 0 (replicate 32 0 ∷ []) rest
+blanks-other : (z : ℕ) → ok (replicate z blank) ≡ false
 unfolding ok
-first-ok bs rest e = subst (λ (x : List Block). ok x ≡ okFrom (bytesAt x) 1 0 (replicate 32 0 ∷ []) rest) (sym e) refl
+blanks-other zero = refl
+blanks-other (suc z) = refl
 
-pub first-read : (bs rest : List Block) → bs ≡ label ∷ rest → readAll bs ≡ readFrom (bytesAt bs) rest
-unfolding readAll
-first-read bs rest e = subst (λ (x : List Block). readAll x ≡ readFrom (bytesAt x) rest) (sym e) refl
-
-first-used : (bs rest : List Block) → bs ≡ label ∷ rest → length (front bs) ≡ suc (length (front rest))
-first-used bs rest e = ap (λ (x : List Block). length (front x)) e
-
--- a store whose first block is no label
-first-other : (b : Block) (rest : List Block) → (kindOf b ≡ 1 → ⊥) → ok (b ∷ rest) ≡ false
+-- blocks whose first is no label
+stem-other : (b : Block) (rest : List Block) (z : ℕ) → (kindOf b ≡ 1 → ⊥) → ok (bareBlocks z (b ∷ rest)) ≡ false
 unfolding ok
-first-other label rest n = absurd (n refl)
-first-other (content r b) rest n = refl
-first-other (commit r s t ls) rest n = refl
-first-other blank rest n = refl
+stem-other label rest z n = absurd (n refl)
+stem-other (content r b) rest z n = go (stem rest)
+  where
+    go : (s : List Block) → ok (onStem (content r b) s ++ replicate z blank) ≡ false
+    go [] = blanks-other z
+    go (c ∷ cs) = refl
+stem-other (commit r s t ls) rest z n = go (stem rest)
+  where
+    go : (x : List Block) → ok (onStem (commit r s t ls) x ++ replicate z blank) ≡ false
+    go [] = refl
+    go (c ∷ cs) = refl
+stem-other blank rest z n = go (stem rest)
+  where
+    go : (s : List Block) → ok (onStem blank s ++ replicate z blank) ≡ false
+    go [] = refl
+    go (c ∷ cs) = refl
 
-passes : (t : Bool) (h : Header) → openedBy (cond (not t) (some 3) none) h ≡ cond t (Open h) (Refused StoreLayout)
-passes true h = refl
-passes false h = refl
+-- ---- no block is left but zero ones
+
+none-whole : (n : ℕ) (l : List ℕ) → filledIn n l ≡ 0 → wholeIn n l ≡ 0
+unfolding wholeIn
+none-whole n l f = ap (λ (k : ℕ). wholeBy k l) f
+
+none-checked : (n : ℕ) (l : List ℕ) → filledIn n l ≡ 0 → checkedBut n l ≡ true
+unfolding checkedBut checked
+none-checked n l f = ap (λ (k : ℕ). checked (countedBy k) l) f
+
+none-bare : (z : ℕ) (l : List ℕ) → ok (bareBlocks z (blocksOf 0 l)) ≡ false
+unfolding blocksOf
+none-bare z l = blanks-other z
+
+unshaped : (n : ℕ) (l : List ℕ) → shapedIn n l ≡ false → lawfulBut n l ≡ false
+unfolding lawfulBut
+unshaped n l s = rw s (none-of (lawful n (bareIn n l)) (eqb (length (front (blocksOf n (bareIn n l)))) (stemIn n l)))
+  where
+    none-of : (a b : Bool) → (a && (b && false)) ≡ false
+    none-of true true = refl
+    none-of true false = refl
+    none-of false b = refl
+
+-- ---- what the code counts
+
+pub counted-is : (n f k : ℕ) (l : List ℕ) → f ≡ filledIn n l → k ≡ countedBy f → checked k l ≡ checkedBut n l
+unfolding checkedBut
+counted-is n f k l e g = ap (λ (x : ℕ). checked x l) (g ∙ ap countedBy e)
+
+pub whole-is : (n f m : ℕ) (l : List ℕ) → f ≡ filledIn n l → m ≡ wholeBy f l → m ≡ wholeIn n l
+unfolding wholeIn
+whole-is n f m l e g = g ∙ ap (λ (x : ℕ). wholeBy x l) e
 
 module _ (l : List ℕ) where
   -- refusal 1
@@ -64,41 +103,76 @@ module _ (l : List ℕ) where
       open-large g = rw (eq-eqb (length l % 512) 0 e, le-ltb (length l / 512) 2 low, lt-ltb 4_096 (length l / 512) g)
 
       module _ (high : length l / 512 ≤ 4_096) where
+        abbrev n : ℕ
+        n = length l / 512
+
+        size : length l ≡ n * 512
+        size = omega arith
+
         -- refusals 2 and 3
-        pub open-unchecked : checked (length l / 512) l ≡ false → openOf l ≡ Refused StoreCheck
+        pub open-unchecked : checkedBut (length l / 512) l ≡ false → openOf l ≡ Refused StoreCheck
         unfolding openOf
         open-unchecked c = rw (eq-eqb (length l % 512) 0 e, le-ltb (length l / 512) 2 low, le-ltb 4_096 (length l / 512) high, c)
 
-        module _ (c : checked (length l / 512) l ≡ true) where
-          unlawful : lawful (length l / 512) l ≡ false → openOf l ≡ Refused StoreLayout
-          unfolding openOf
-          unlawful o = rw (eq-eqb (length l % 512) 0 e, le-ltb (length l / 512) 2 low, le-ltb 4_096 (length l / 512) high, c, o)
+        module _ (c : checkedBut (length l / 512) l ≡ true) where
+          judge : openOf l ≡ openedBy (cond (not (lawfulBut n l)) (some 3) none) (headOf (blocksOf n (bareIn n l)))
+          unfolding openOf historyOf
+          judge = rw (eq-eqb (length l % 512) 0 e, le-ltb (length l / 512) 2 low, le-ltb 4_096 (length l / 512) high, c)
 
-          pub open-unshaped : all (shaped fieldsOf parse fitsBlock) (parts (length l / 512) l) ≡ false → openOf l ≡ Refused StoreLayout
-          unfolding lawful
-          open-unshaped s = unlawful (rw s)
+          passes : (t : Bool) (h : Header) → openedBy (cond (not t) (some 3) none) h ≡ cond t (Open h) (Refused StoreLayout)
+          passes true h = refl
+          passes false h = refl
 
-          module _ (s : all (shaped fieldsOf parse fitsBlock) (parts (length l / 512) l) ≡ true) where
-            first : blocksOf (length l / 512) l ≡ parse (lent l 0) ∷ drop 1 (blocksOf (length l / 512) l)
-            first = rest-step (length l / 512) l 0 (omega arith)
+          unlawful : lawfulBut n l ≡ false → openOf l ≡ Refused StoreLayout
+          unlawful o = judge ∙ passes (lawfulBut n l) (headOf (blocksOf n (bareIn n l))) ∙ ap (λ (t : Bool). cond t (Open (headOf (blocksOf n (bareIn n l)))) (Refused StoreLayout)) o
 
-            pub open-unlabelled : (kindOf (parse (lent l 0)) ≡ 1 → ⊥) → openOf l ≡ Refused StoreLayout
-            unfolding lawful
-            open-unlabelled k =
-                let o : ok (blocksOf (length l / 512) l) ≡ false = ap ok first ∙ first-other (parse (lent l 0)) (drop 1 (blocksOf (length l / 512) l)) k in
-                unlawful (rw (s, o))
+          pub open-unshaped : shapedIn (length l / 512) l ≡ false → openOf l ≡ Refused StoreLayout
+          open-unshaped s = unlawful (unshaped n l s)
 
-            pub open-passed : kindOf (parse (lent l 0)) ≡ 1 → passedAll (length l / 512) l ≡ openOf l
-            unfolding openOf lawful historyOf passedAll passed
-            open-passed k =
-                let B = blocksOf (length l / 512) l in
-                let R = drop 1 (blocksOf (length l / 512) l) in
-                let q : blocksOf (length l / 512) l ≡ label ∷ R = first ∙ ap (λ (x : Block). x ∷ R) (parse-label (lent l 0) k) in
-                let o = first-ok B R q in
-                let r : length (readAll B) ≡ 0 + length (readFrom (bytesAt B) R) = ap length (first-read B R q) ∙ omega arith in
-                let u : length (front B) ≡ 1 + length (front R) = first-used B R q ∙ omega arith in
-                sym (rw (eq-eqb (length l % 512) 0 e, le-ltb (length l / 512) 2 low, le-ltb 4_096 (length l / 512) high, c, s, o, r, u)
-                (passes (okFrom (bytesAt B) 1 0 (replicate 32 0 ∷ []) R) _))
+          module _ (s : shapedIn (length l / 512) l ≡ true) where
+            S : T (shapedIn n l)
+            S = subst T (sym s) tt
+
+            lawful-is : lawfulBut n l ≡ judged (n - stemIn n l) (blocksOf (wholeIn n l) l)
+            unfolding lawfulBut lawful historyOf stemIn
+            lawful-is =
+                let b : all (shaped fieldsOf parse fitsBlock) (parts n (bareIn n l)) ≡ true = is-true (all (shaped fieldsOf parse fitsBlock) (parts n (bareIn n l))) (bare-shaped n l size c S) in
+                let k : wholeIn n l ≡ length (blocksOf (wholeIn n l) l) = sym (length-blocks (wholeIn n l) l) in
+                rw (b, s) (λ i. judgedBy (blocksOf (wholeIn n l) l) (bare-stem n l size c S i) (stemIn n l) (k i))
+
+            opened : openOf l ≡ cond (judged (n - stemIn n l) (blocksOf (wholeIn n l) l)) (Open (headOf (bareBlocks (n - stemIn n l) (blocksOf (wholeIn n l) l)))) (Refused StoreLayout)
+            opened =
+                judge ∙ passes (lawfulBut n l) (headOf (blocksOf n (bareIn n l)))
+                ∙ ap₂ (λ (t : Bool) (B : List Block). cond t (Open (headOf B)) (Refused StoreLayout)) lawful-is (bare-stem n l size c S)
+
+            module _ (some-whole : 1 ≤ wholeIn (length l / 512) l) where
+              first : blocksOf (wholeIn n l) l ≡ parse (lent l 0) ∷ drop 1 (blocksOf (wholeIn n l) l)
+              first = rest-step (wholeIn n l) l 0 (omega arith)
+
+              pub open-unlabelled : (kindOf (parse (lent l 0)) ≡ 1 → ⊥) → openOf l ≡ Refused StoreLayout
+              open-unlabelled k =
+                  let R = drop 1 (blocksOf (wholeIn n l) l) in
+                  let o : ok (bareBlocks (n - stemIn n l) (blocksOf (wholeIn n l) l)) ≡ false =
+                  ap (λ (x : List Block). ok (bareBlocks (n - stemIn n l) x)) first ∙ stem-other (parse (lent l 0)) R (n - stemIn n l) k in
+                  opened ∙ rw o
+
+              pub open-passed : kindOf (parse (lent l 0)) ≡ 1 → passedAll (wholeIn (length l / 512) l) l ≡ openOf l
+              unfolding passedAll
+              open-passed k =
+                  let R = drop 1 (blocksOf (wholeIn n l) l) in
+                  let q : blocksOf (wholeIn n l) l ≡ label ∷ R = first ∙ ap (λ (x : Block). x ∷ R) (parse-label (lent l 0) k) in
+                  ap (λ (x : List Block). passed (bytesAt x) 1 0 (replicate 32 0 ∷ []) R) q ∙ judged-passed (n - stemIn n l) R
+                  ∙ sym (opened ∙ ap (λ (x : List Block). cond (judged (n - stemIn n l) x) (Open (headOf (bareBlocks (n - stemIn n l) x))) (Refused StoreLayout)) q)
+
+        -- no block but zero ones
+        pub open-none : filledIn (length l / 512) l ≡ 0 → openOf l ≡ Refused StoreLayout
+        open-none f =
+            let w : wholeIn n l ≡ 0 = none-whole n l f in
+            let c : checkedBut n l ≡ true = none-checked n l f in
+            let s : shapedIn n l ≡ true = ap (λ (k : ℕ). all (shaped fieldsOf parse fitsBlock) (parts k l)) w in
+            let o : ok (bareBlocks (n - stemIn n l) (blocksOf (wholeIn n l) l)) ≡ false =
+            ap (λ (k : ℕ). ok (bareBlocks (n - stemIn n l) (blocksOf k l))) w ∙ none-bare (n - stemIn n l) l in
+            opened c s ∙ rw o
 
 -- the table
 
@@ -111,6 +185,6 @@ fresh-row : (m : ℕ) → 32 ≤ m → rowsOf 1 (replicate m 0) ≡ replicate 32
 unfolding rowsOf
 fresh-row m h = ap {B = List Table} (λ x. x ∷ []) (take-zeros 32 m h)
 
-pub fresh : (s : List ℕ) (n m : ℕ) → length s ≡ n * 512 → 1 ≤ n → n ≤ 4_096 → 32 * n ≤ m → Fresh s n (replicate m 0)
+pub fresh : (s : List ℕ) (n m : ℕ) → n * 512 ≤ length s → 1 ≤ n → n ≤ 4_096 → 32 * n ≤ m → Fresh s n (replicate m 0)
 fresh s n m w low few e =
     record { whole = w; some = low; few = few; room = omega (arith, length-replicate {A = ℕ} m 0); first = fresh-row m (omega arith) }

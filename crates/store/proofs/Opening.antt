@@ -9,7 +9,7 @@ use native.Mathlib.Omega.{arith}
 use Rattle.model.specs.Calls.{sizeCondition, storeConditions}
 use Rattle.model.specs.History.{Bytes, last}
 use Rattle.model.specs.Refusals.{_when_, firstOf}
-use Rattle.model.specs.Store.{blockCount, checked, lawful, storeHistory, usedOf}
+use Rattle.model.specs.Store.{blockCount, checkedBut, lawfulBut, storeHistory, usedOf}
 use Rattle.model.specs.Types.{numberOf}
 use Rattle.model.specs.declared.Refusal.{Refusal}
 use Rattle.model.specs.declared.Refusal.the-variants.{StoreCheck, StoreLayout, StoreLength}
@@ -35,14 +35,14 @@ module _ (store : Bytes) where
   pub open-accepted : (h : Header) → openOf store ≡ Open h → (firstOf (storeConditions store) ≡ none) × (h .last ≡ last (storeHistory store)) × (h .used ≡ usedOf store)
   unfolding openOf
   open-accepted h e =
-      let w = ways-open (sizeCondition store .holds) (not (checked (blockCount store) store)) (not (lawful (blockCount store) store))
+      let w = ways-open (sizeCondition store .holds) (not (checkedBut (blockCount store) store)) (not (lawfulBut (blockCount store) store))
       (record { last = last (storeHistory store); used = usedOf store }) h e in
       (w .0, cc (w .1), cc (w .1))
 
   pub open-refused : (k : Refusal) → openOf store ≡ Refused k → firstOf (storeConditions store) ≡ some (numberOf k)
   unfolding openOf
   open-refused k e =
-      ways-refused (sizeCondition store .holds) (not (checked (blockCount store) store)) (not (lawful (blockCount store) store))
+      ways-refused (sizeCondition store .holds) (not (checkedBut (blockCount store) store)) (not (lawfulBut (blockCount store) store))
       (record { last = last (storeHistory store); used = usedOf store }) k e
 
   -- and back: a store of which no line holds is open

@@ -1,32 +1,29 @@
 -- The forward pass, one law for each way through a turn.
 -- Assumes nothing.
 use Prim.Native.Nat.{_+_, _-_, _<_, _≤_, suc, ℕ}
-use mathlib.Core.Bool.{Bool, _&&_, cond, false, true}
+use mathlib.Core.Bool.{Bool, cond, false, true}
 use mathlib.Core.List.{List, [], _∷_}
 use mathlib.Core.Logic.{inl, inr}
 use mathlib.Core.Path.{_∙_, _≡_, ap, ap₂, refl, sym}
 use native.Mathlib.Numerals.{add-one}
 use native.Mathlib.Omega.{arith}
-use borrow.Author.Tests.{eq-eqb, ne-eqb}
+use borrow.Author.Tests.{eq-eqb, le-leb, lt-leb, ne-eqb}
 use lib.Dec.{eqb}
 use lib.ListN.{drop, drop-of-length-le, getD, length, length-append, replicate, take}
 use lib.Seq.{drop-cons}
 use Rattle.block.proofs.Says.{eq-or}
 use Rattle.block.specs.Field.{fourAt, twoAt}
-use Rattle.block.specs.Lists.{all}
 use Rattle.model.specs.Blocks.{Block, Line, blank, bytesAt, commit, content, label, parse, parseLines}
 use Rattle.model.specs.Layout.{Table, latest, next}
-use Rattle.model.specs.Pass.{grown, isBlank, laid, okFrom, readFrom}
-use Rattle.model.specs.Store.{blocksOf, front}
+use Rattle.model.specs.Pass.{grown, laid, readFrom}
+use Rattle.model.specs.Store.{blocksOf}
 use Rattle.model.specs.declared.Refusal.the-variants.{StoreLayout}
 use Rattle.shape.specs.Rows.{rowsOf}
 use Rattle.shape.specs.Shape.{kindOf}
 use Rattle.store.proofs.Blocks.{block-at, length-blocks, lent}
 use Rattle.store.proofs.RuleLaws.{length-rows}
-use Rattle.store.specs.Opened.{endingBy, passed, passedAll}
-use Rattle.store.specs.declared.Header.{Header}
+use Rattle.store.specs.Opened.{okTail, passed, passedAll, reached}
 use Rattle.store.specs.declared.Opened.the-variants.{Open, Refused}
-use Rattle.store.specs.declared.Spot.{Spot}
 
 -- ---- block after block
 
@@ -101,104 +98,81 @@ module _ (l : List ℕ) where
   unfolding parse
   parse-low = kind-low (contentOf l) (commitOf l) refl refl (eqb (getD l 0 0) 1) (eqb (getD l 0 0) 2) (eqb (getD l 0 0) 3)
 
-pub blank-is : (b : Block) → isBlank b ≡ eqb (kindOf b) 0
-blank-is label = refl
-blank-is (content r b) = refl
-blank-is (commit r s t ls) = refl
-blank-is blank = refl
-
 -- ---- the pass
 
 module _ (look : ℕ → List ℕ) (at k : ℕ) (tables : List Table) (bs : List Block) where
   pub passed-label : passed look at k tables (label ∷ bs) ≡ Refused StoreLayout
-  unfolding passed okFrom
+  unfolding passed okTail
   passed-label = refl
 
   pub passed-content : (r : ℕ) (b : List ℕ) → r ≡ length tables → passed look at k tables (content r b ∷ bs) ≡ passed look at (k + 1) tables bs
-  unfolding passed okFrom readFrom
-  passed-content r b e =
-      let u : at + k + suc (length (front bs)) ≡ at + (k + 1) + length (front bs) = omega arith in
-      rw (eq-eqb r (length tables) e, u, add-one k)
+  unfolding passed okTail reached readFrom
+  passed-content r b e = rw (eq-eqb r (length tables) e, add-one k)
 
   pub passed-elsewhere : (r : ℕ) (b : List ℕ) → (r ≡ length tables → ⊥) → passed look at k tables (content r b ∷ bs) ≡ Refused StoreLayout
-  unfolding passed okFrom
+  unfolding passed okTail
   passed-elsewhere r b n = rw (ne-eqb r (length tables) n)
 
   module _ (r seat stamp : ℕ) (ls : List Line) where
     pub passed-other : (r ≡ length tables → ⊥) → passed look at k tables (commit r seat stamp ls ∷ bs) ≡ Refused StoreLayout
-    unfolding passed okFrom
+    unfolding passed okTail
     passed-other n = rw (ne-eqb r (length tables) n)
 
     pub passed-unlaid : r ≡ length tables → laid look at k tables seat ls ≡ false → passed look at k tables (commit r seat stamp ls ∷ bs) ≡ Refused StoreLayout
-    unfolding passed okFrom
+    unfolding passed okTail
     passed-unlaid e f = rw (eq-eqb r (length tables) e, f)
 
     pub passed-commit : r ≡ length tables → 1 ≤ length tables → laid look at k tables seat ls ≡ true
         → passed look at k tables (commit r seat stamp ls ∷ bs) ≡ passed look (at + k + 1) 0 (grown tables ls) bs
-    unfolding passed okFrom readFrom
+    unfolding passed okTail reached readFrom
     passed-commit e some t =
         let g : length (grown tables ls) ≡ length tables + 1 = length-append tables (next ls (latest tables) ∷ []) in
         let v : length tables - 1 + suc (length (readFrom look bs)) ≡ length (grown tables ls) - 1 + length (readFrom look bs) = omega arith in
-        let u : at + k + suc (length (front bs)) ≡ at + k + 1 + 0 + length (front bs) = omega arith in
-        rw (eq-eqb r (length tables) e, t, u, v, add-one (at + k))
+        rw (eq-eqb r (length tables) e, t, v, add-one (at + k))
 
-and-yes : (b : Bool) → (b && true) ≡ b
-and-yes true = refl
-and-yes false = refl
+  pub passed-blank : passed look at k tables (blank ∷ bs) ≡ Refused StoreLayout
+  unfolding passed okTail
+  passed-blank = refl
 
-module _ (look : ℕ → List ℕ) (w : Spot) (tables : List Table) (e : length tables ≡ w .last + 1) where
-  header-end : _≡_ {A = Header} (record { last = length tables - 1 + 0; used = w .at + w .k + 0 }) (record { last = w .last; used = w .at + w .k })
-  header-end = let d : length tables - 1 + 0 ≡ w .last = omega arith in let f : w .at + w .k + 0 ≡ w .at + w .k = omega arith in rw (d, f)
+module _ (look : ℕ → List ℕ) (at k last : ℕ) (tables : List Table) (e : length tables ≡ last + 1) where
+  -- nothing is left
+  pub passed-end : k ≤ 32 → passed look at k tables [] ≡ Open (record { last = last; used = at })
+  unfolding passed okTail reached readFrom
+  passed-end h = let d : length tables - 1 + 0 ≡ last = omega arith in rw (le-leb k 32 h, d)
 
-  -- nothing is left, or a blank block comes
-  pub passed-end : passed look (w .at) (w .k) tables [] ≡ endingBy w (all isBlank [])
-  unfolding endingBy passed okFrom readFrom
-  passed-end = ap₂ (λ (x : Bool) (y : Header). cond x (Open y) (Refused StoreLayout)) (sym (and-yes (eqb (w .k) 0))) header-end
-
-  pub passed-blank : (bs : List Block) → passed look (w .at) (w .k) tables (blank ∷ bs) ≡ endingBy w (all isBlank (blank ∷ bs))
-  unfolding endingBy passed okFrom readFrom
-  passed-blank bs = ap (λ (y : Header). cond (eqb (w .k) 0 && all isBlank bs) (Open y) (Refused StoreLayout)) header-end
-
--- ---- blank blocks
-
-pub blanks-step : (n : ℕ) (s : List ℕ) (p : ℕ) → p < n
-    → all isBlank (drop p (blocksOf n s)) ≡ (eqb (kindOf (parse (lent s p))) 0 && all isBlank (drop (p + 1) (blocksOf n s)))
-blanks-step n s p h =
-    ap (all isBlank) (rest-step n s p h) ∙ ap (λ (x : Bool). x && all isBlank (drop (p + 1) (blocksOf n s))) (blank-is (parse (lent s p)))
-
-pub blanks-none : (n : ℕ) (s : List ℕ) (p : ℕ) → n ≤ p → all isBlank (drop p (blocksOf n s)) ≡ true
-blanks-none n s p h = ap (all isBlank) (rest-none n s p h)
+  pub passed-many : 32 < k → passed look at k tables [] ≡ Refused StoreLayout
+  unfolding passed okTail
+  passed-many h = rw (lt-leb k 32 h)
 
 -- ---- a turn
 
 module _ (look : ℕ → List ℕ) (n : ℕ) (s : List ℕ) (at k last : ℕ) (tab : List ℕ) where
-  abbrev here : Spot
-  here = record { n = n; last = last; at = at; k = k }
-
   rows-here : length (rowsOf (last + 1) tab) ≡ last + 1
   rows-here = length-rows (last + 1) tab
 
-  pub turn-end : n ≤ at + k → passed look at k (rowsOf (last + 1) tab) (drop (at + k) (blocksOf n s)) ≡ endingBy here (all isBlank (drop (at + k) (blocksOf n s)))
-  turn-end h =
-      ap (passed look at k (rowsOf (last + 1) tab)) (rest-none n s (at + k) h)
-      ∙ passed-end look here (rowsOf (last + 1) tab) rows-here
-      ∙ ap (λ (y : List Block). endingBy here (all isBlank y)) (sym (rest-none n s (at + k) h))
+  module _ (h : n ≤ at + k) where
+    none : passed look at k (rowsOf (last + 1) tab) (drop (at + k) (blocksOf n s)) ≡ passed look at k (rowsOf (last + 1) tab) []
+    none = ap (passed look at k (rowsOf (last + 1) tab)) (rest-none n s (at + k) h)
+
+    pub turn-end : k ≤ 32 → passed look at k (rowsOf (last + 1) tab) (drop (at + k) (blocksOf n s)) ≡ Open (record { last = last; used = at })
+    turn-end g = none ∙ passed-end look at k last (rowsOf (last + 1) tab) rows-here g
+
+    pub turn-many : 32 < k → passed look at k (rowsOf (last + 1) tab) (drop (at + k) (blocksOf n s)) ≡ Refused StoreLayout
+    turn-many g = none ∙ passed-many look at k last (rowsOf (last + 1) tab) rows-here g
 
   module _ (h : at + k < n) where
     step : (b : Block) → parse (lent s (at + k)) ≡ b
         → passed look at k (rowsOf (last + 1) tab) (drop (at + k) (blocksOf n s)) ≡ passed look at k (rowsOf (last + 1) tab) (b ∷ drop (at + k + 1) (blocksOf n s))
     step b e = ap (passed look at k (rowsOf (last + 1) tab)) (rest-step n s (at + k) h ∙ ap (λ (x : Block). x ∷ drop (at + k + 1) (blocksOf n s)) e)
 
-    pub turn-blank : kindOf (parse (lent s (at + k))) ≡ 0
-        → passed look at k (rowsOf (last + 1) tab) (drop (at + k) (blocksOf n s)) ≡ endingBy here (all isBlank (drop (at + k) (blocksOf n s)))
-    turn-blank e =
-        let p = parse-blank (lent s (at + k)) e in
-        step blank p ∙ passed-blank look here (rowsOf (last + 1) tab) rows-here (drop (at + k + 1) (blocksOf n s))
-        ∙ ap (λ (y : List Block). endingBy here (all isBlank y))
-        (sym (rest-step n s (at + k) h ∙ ap (λ (x : Block). x ∷ drop (at + k + 1) (blocksOf n s)) p))
-
-    pub turn-label : kindOf (parse (lent s (at + k))) ≡ 1 → passed look at k (rowsOf (last + 1) tab) (drop (at + k) (blocksOf n s)) ≡ Refused StoreLayout
-    turn-label e = step label (parse-label (lent s (at + k)) e) ∙ passed-label look at k (rowsOf (last + 1) tab) (drop (at + k + 1) (blocksOf n s))
+    -- a zero block, or another label
+    pub turn-early : kindOf (parse (lent s (at + k))) < 2 → passed look at k (rowsOf (last + 1) tab) (drop (at + k) (blocksOf n s)) ≡ Refused StoreLayout
+    turn-early g =
+        let x = lent s (at + k) in
+        elim (eq-or (kindOf (parse x)) 0) [
+          | inl e ↦ step blank (parse-blank x e) ∙ passed-blank look at k (rowsOf (last + 1) tab) (drop (at + k + 1) (blocksOf n s))
+          | inr o ↦ step label (parse-label x (omega (arith, o))) ∙ passed-label look at k (rowsOf (last + 1) tab) (drop (at + k + 1) (blocksOf n s))
+        ]
 
     pub turn-content : kindOf (parse (lent s (at + k))) ≡ 2 → twoAt (lent s (at + k)) 4 ≡ last + 1
         → passed look at k (rowsOf (last + 1) tab) (drop (at + k) (blocksOf n s)) ≡ passed look at (k + 1) (rowsOf (last + 1) tab) (drop (at + (k + 1)) (blocksOf n s))
@@ -210,15 +184,15 @@ module _ (look : ℕ → List ℕ) (n : ℕ) (s : List ℕ) (at k last : ℕ) (t
         ∙ ap (λ (y : ℕ). passed look at (k + 1) (rowsOf (last + 1) tab) (drop y (blocksOf n s))) d
 
     -- a content or a commit block of another revision
-    pub turn-revision : (kindOf (parse (lent s (at + k))) ≡ 0 → ⊥) → (kindOf (parse (lent s (at + k))) ≡ 1 → ⊥) → (twoAt (lent s (at + k)) 4 ≡ last + 1 → ⊥)
+    pub turn-revision : 2 ≤ kindOf (parse (lent s (at + k))) → (twoAt (lent s (at + k)) 4 ≡ last + 1 → ⊥)
         → passed look at k (rowsOf (last + 1) tab) (drop (at + k) (blocksOf n s)) ≡ Refused StoreLayout
-    turn-revision n₀ n₁ q =
+    turn-revision g q =
         let x = lent s (at + k) in
         let low = parse-low x in
         elim (eq-or (kindOf (parse x)) 2) [
           | inl e ↦ step (contentOf x) (parse-content x e)
               ∙ passed-elsewhere look at k (rowsOf (last + 1) tab) (drop (at + k + 1) (blocksOf n s)) (twoAt x 4) (take (twoAt x 2) (drop 16 x)) (λ y. q (y ∙ rows-here))
-          | inr o ↦ step (commitOf x) (parse-commit x (omega (arith, low, n₀, n₁)))
+          | inr o ↦ step (commitOf x) (parse-commit x (omega (arith, low, o)))
               ∙ passed-other look at k (rowsOf (last + 1) tab) (drop (at + k + 1) (blocksOf n s)) (twoAt x 4) (getD x 6 0) (fourAt x 8)
               (parseLines (twoAt x 2) (drop 16 x)) (λ y. q (y ∙ rows-here))
         ]
@@ -246,8 +220,8 @@ module _ (look : ℕ → List ℕ) (n : ℕ) (s : List ℕ) (at k last : ℕ) (t
           ∙ ap₂ (λ (y : List Table) (z : ℕ). passed look (at + k + 1) 0 y (drop z (blocksOf n s)))
           (ap (λ (y : ℕ). grown (rowsOf (last + 1) tab) (parseLines y (drop 16 x))) (sym em) ∙ sym g) d
 
-pub kind-three : (l : List ℕ) → (kindOf (parse l) ≡ 0 → ⊥) → (kindOf (parse l) ≡ 1 → ⊥) → (kindOf (parse l) ≡ 2 → ⊥) → kindOf (parse l) ≡ 3
-kind-three l n₀ n₁ n₂ = omega (arith, parse-low l)
+pub kind-three : (l : List ℕ) → 2 ≤ kindOf (parse l) → (kindOf (parse l) ≡ 2 → ⊥) → kindOf (parse l) ≡ 3
+kind-three l g n₂ = omega (arith, parse-low l)
 
 pub start-is : (n : ℕ) (s tab : List ℕ) → rowsOf 1 tab ≡ replicate 32 0 ∷ [] → passed (bytesAt (blocksOf n s)) 1 0 (rowsOf 1 tab) (drop (1 + 0) (blocksOf n s)) ≡ passedAll n s
 unfolding passedAll

@@ -7,21 +7,16 @@ use lib.ListN.{length, replicate}
 use Rattle.shape.specs.Rows.{rowsOf}
 use Rattle.store.specs.declared.Spot.{Spot}
 
--- a store of n blocks, and the commit's content blocks are among them
-pub record Sized (s : List ℕ) (w : Spot) : Type 0 where
-  pub whole : length s ≡ w .n * 512
-  pub within : w .at + w .k ≤ w .n
-
 -- at a commit block: the table has a row for each of the trees 0 to `last`
 pub record Known (s tab : List ℕ) (w : Spot) : Type 0 where
-  pub whole : length s ≡ w .n * 512
+  pub whole : w .n * 512 ≤ length s
   pub within : w .at + w .k ≤ w .n
   pub few : w .n ≤ 4_096
   pub room : 32 * w .last + 32 ≤ length tab
 
--- where the pass starts: a store of n blocks, and a table with n rows whose row 0 is tree 0's
+-- where the pass starts: n blocks, and a table with n rows whose row 0 is tree 0's
 pub record Fresh (s : List ℕ) (n : ℕ) (tab : List ℕ) : Type 0 where
-  pub whole : length s ≡ n * 512
+  pub whole : n * 512 ≤ length s
   pub some : 1 ≤ n
   pub few : n ≤ 4_096
   pub room : 32 * n ≤ length tab

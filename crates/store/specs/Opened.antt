@@ -1,24 +1,23 @@
 -- What opening a store answers, and what the forward pass answers on the way.
 -- Assumes nothing.
-use Prim.Native.Nat.{_+_, _-_, ℕ}
-use mathlib.Core.Bool.{Bool, _&&_, cond}
+use Prim.Native.Nat.{_+_, _-_, suc, ℕ}
+use mathlib.Core.Bool.{Bool, _&&_, cond, false}
 use mathlib.Core.List.{List, [], _∷_}
 use mathlib.Core.Option.{Option, none, some}
-use lib.Dec.{eqb}
+use lib.Dec.{eqb, leb}
 use lib.ListN.{drop, length, replicate}
-use Rattle.model.specs.Blocks.{Block, bytesAt}
+use Rattle.model.specs.Blocks.{Block, blank, bytesAt, commit, content, label}
 use Rattle.model.specs.Calls.{storeConditions}
 use Rattle.model.specs.History.{Bytes, last}
 use Rattle.model.specs.Layout.{Table}
-use Rattle.model.specs.Pass.{okFrom, readFrom}
+use Rattle.model.specs.Pass.{grown, laid, readFrom}
 use Rattle.model.specs.Refusals.{firstOf}
-use Rattle.model.specs.Store.{blocksOf, front, storeHistory, usedOf}
+use Rattle.model.specs.Store.{blocksOf, storeHistory, usedOf}
 use Rattle.model.specs.declared.Refusal.{Refusal}
 use Rattle.model.specs.declared.Refusal.the-variants.{StoreCheck, StoreLayout, StoreLength}
 use Rattle.store.specs.declared.Header.{Header}
 use Rattle.store.specs.declared.Opened.{Opened}
 use Rattle.store.specs.declared.Opened.the-variants.{Open, Refused}
-use Rattle.store.specs.declared.Spot.{Spot}
 
 -- the refusals 1, 2 and 3
 abbrev pub refusalAs : ℕ → Refusal
@@ -32,16 +31,29 @@ openedBy (some n) h = Refused (refusalAs n)
 unfoldable pub openOf : Bytes → Opened
 openOf store = openedBy (firstOf (storeConditions store)) (record { last = last (storeHistory store); used = usedOf store })
 
+-- the pass over the blocks that are left: no zero block stands among them, and content blocks that no commit follows are 32 at most
+unfoldable pub okTail : (ℕ → List ℕ) → ℕ → ℕ → List Table → List Block → Bool
+okTail look at k tables [] = leb k 32
+okTail look at k tables (label ∷ bs) = false
+okTail look at k tables (content r b ∷ bs) = eqb r (length tables) && okTail look at (suc k) tables bs
+okTail look at k tables (commit r seat stamp ls ∷ bs) =
+    eqb r (length tables) && (laid look at k tables seat ls && okTail look (suc (at + k)) 0 (grown tables ls) bs)
+okTail look at k tables (blank ∷ bs) = false
+
+-- the block after their last commit block
+unfoldable pub reached : ℕ → ℕ → List Block → ℕ
+reached at k [] = at
+reached at k (label ∷ bs) = at
+reached at k (content r b ∷ bs) = reached at (suc k) bs
+reached at k (commit r seat stamp ls ∷ bs) = reached (suc (at + k)) 0 bs
+reached at k (blank ∷ bs) = at
+
 -- what the forward pass answers, from a commit's first block `at` with k content blocks passed, the trees' tables, and the blocks that are left
 unfoldable pub passed : (ℕ → List ℕ) → ℕ → ℕ → List Table → List Block → Opened
 passed look at k tables bs =
-    cond (okFrom look at k tables bs)
-    (Open (record { last = length tables - 1 + length (readFrom look bs); used = at + k + length (front bs) }))
+    cond (okTail look at k tables bs)
+    (Open (record { last = length tables - 1 + length (readFrom look bs); used = reached at k bs }))
     (Refused StoreLayout)
 
 unfoldable pub passedAll : ℕ → List ℕ → Opened
 passedAll n l = passed (bytesAt (blocksOf n l)) 1 0 (replicate 32 0 ∷ []) (drop 1 (blocksOf n l))
-
--- the pass ends: blanks says whether no block but blank ones is left
-unfoldable pub endingBy : Spot → Bool → Opened
-endingBy w blanks = cond (eqb (w .k) 0 && blanks) (Open (record { last = w .last; used = w .at + w .k })) (Refused StoreLayout)

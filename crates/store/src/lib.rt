@@ -1,5 +1,6 @@
-// Whether a store's bytes are the layout of a history: refusals 1 to 3, or the last revision and the used blocks. Nothing is written. One pass over the checks, one
-// over the shapes and one forward over the commits, with a table of 32 block numbers for each revision, so that a copy's source is one read.
+// Whether a store's bytes are the layout of a history, with or without a tail: refusals 1 to 3, or the last revision and the used blocks. Nothing is written. The zero
+// blocks are passed over from the end; then one pass over the checks, one over the shapes and one forward over the commits, with a table of 32 block numbers for each
+// revision, so that a copy's source is one read.
 use model::Refusal;
 ghost use Prim.Native.Nat.{_*_, _+_, _≤_, _<_};
 ghost use mathlib.Core.List.{[]};
@@ -9,11 +10,11 @@ ghost use Rattle.block.specs.Field.{twoAt};
 ghost use Rattle.block.specs.Lists.{all, same};
 ghost use Rattle.model.specs.Blocks.{bytesAt, fieldsOf, fitsBlock, parse, parseLine, parseLines};
 ghost use Rattle.model.specs.Codec.{parts, shaped};
-ghost use Rattle.model.specs.Pass.{isBlank, laid, rule};
-ghost use Rattle.model.specs.Store.{blocksOf, checked};
+ghost use Rattle.model.specs.Pass.{laid, rule};
+ghost use Rattle.model.specs.Store.{blocksOf, checked, countedBy, filledIn, wholeBy};
 ghost use Rattle.shape.specs.Rows.{rowsOf};
-ghost use Rattle.store.specs.Known.{Fresh, Known, Sized};
-ghost use Rattle.store.specs.Opened.{endingBy, openOf, passedAll};
+ghost use Rattle.store.specs.Known.{Fresh, Known};
+ghost use Rattle.store.specs.Opened.{openOf, passedAll};
 ghost use Rattle.store.specs.Rule.{bare, copyRule, ownOf, plainRule};
 
 // The last revision, and U, the used blocks.
@@ -27,7 +28,7 @@ pub enum Opened {
     Open(Header),
 }
 
-// Where the forward pass stands, in a store of n blocks: the last revision so far, and the next commit's k content blocks from block `at` on.
+// Where the forward pass stands, over n blocks: the last revision so far, and the next commit's k content blocks from block `at` on.
 pub struct Spot {
     pub n: usize,
     pub last: usize,
@@ -46,7 +47,7 @@ pub struct Change {
 
 // Whether the check of each of the n blocks is right.
 fn all_sealed(store: &[u8], n: usize) -> bool
-    requires { ⌜ length (now store) ≡ n * 512 ⌝ }
+    requires { ⌜ n * 512 ≤ length (now store) ⌝ }
     ensures { λ r. ⌜ r ≡ checked n (now (store .entry)) ⌝ }
 {
     let mut p: usize = 0;
@@ -63,7 +64,7 @@ fn all_sealed(store: &[u8], n: usize) -> bool
 
 // Whether each of the n blocks has the shape of what its first byte says.
 fn all_shaped(store: &[u8], n: usize) -> bool
-    requires { ⌜ length (now store) ≡ n * 512 ⌝ }
+    requires { ⌜ n * 512 ≤ length (now store) ⌝ }
     ensures { λ r. ⌜ r ≡ all (shaped fieldsOf parse fitsBlock) (parts n (now (store .entry))) ⌝ }
 {
     let mut p: usize = 0;
@@ -130,7 +131,7 @@ fn plain_rule(w: Spot, c: Change) -> bool
 
 // Whether blocks p and q hold the same bytes; past the end there are none.
 fn same_bytes(store: &[u8], n: usize, p: usize, q: usize) -> bool
-    requires { ⌜ (length (now store) ≡ n * 512) × (p < n) ⌝ }
+    requires { ⌜ (n * 512 ≤ length (now store)) × (p < n) ⌝ }
     ensures { λ r. ⌜ r ≡ same (bytesAt (blocksOf n (now (store .entry))) p) (bytesAt (blocksOf n (now (store .entry))) q) ⌝ }
 {
     let a = p * 512;
@@ -246,39 +247,8 @@ fn laid_at<'a>(store: &'a [u8], b: &'a [u8], tab: &'a [u16], w: Spot) -> bool
     shape::one_each(b, 16, m, w.at, w.k)
 }
 
-// Whether each block from block `from` on is blank.
-fn blanks(store: &[u8], n: usize, from: usize) -> bool
-    requires { ⌜ (length (now store) ≡ n * 512) × (from ≤ n) ⌝ }
-    ensures { λ x. ⌜ x ≡ all isBlank (drop from (blocksOf n (now (store .entry)))) ⌝ }
-{
-    let mut p = from;
-    while p < n {
-        let a = p * 512;
-        let e = a + 512;
-        if shape::kind(&store[a..e]) != 0 {
-            return false;
-        }
-        p += 1;
-    }
-    true
-}
-
-// The answer where block at + k is blank or past the end.
-fn finish(store: &[u8], w: Spot) -> Opened
-    requires { ⌜ Sized (now store) w ⌝ }
-    ensures { λ x. ⌜ x ≡ endingBy w (all isBlank (drop (w .at + w .k) (blocksOf (w .n) (now (store .entry))))) ⌝ }
-{
-    if w.k != 0 {
-        return Opened::Refused(Refusal::StoreLayout);
-    }
-    let used = w.at + w.k;
-    if !blanks(store, w.n, used) {
-        return Opened::Refused(Refusal::StoreLayout);
-    }
-    Opened::Open(Header { last: w.last, used })
-}
-
-// The forward pass over the blocks after the label. Row v of the table gets the block that each sheet of tree v uses.
+// The forward pass over the blocks after the label. Row v of the table gets the block that each sheet of tree v uses. The content blocks that are left at the end are the
+// tail's.
 fn pass(store: &[u8], n: usize, tab: &mut [u16]) -> Opened
     requires { ⌜ Fresh (now store) n (now tab) ⌝ }
     ensures { λ x. ⌜ x ≡ passedAll n (now (store .entry)) ⌝ }
@@ -293,10 +263,7 @@ fn pass(store: &[u8], n: usize, tab: &mut [u16]) -> Opened
         let e = a + 512;
         let b = &store[a..e];
         let kind = shape::kind(b);
-        if kind == 0 {
-            return finish(store, w);
-        }
-        if kind == 1 {
+        if kind < 2 {
             return Opened::Refused(Refusal::StoreLayout);
         }
         if shape::two_at(b, 4) as usize != last + 1 {
@@ -315,25 +282,69 @@ fn pass(store: &[u8], n: usize, tab: &mut [u16]) -> Opened
         at = pos + 1;
         k = 0;
     }
-    finish(store, Spot { n, last, at, k })
+    if 32 < k {
+        return Opened::Refused(Refusal::StoreLayout);
+    }
+    Opened::Open(Header { last, used: at })
 }
 
-// The pass over a store of at most 64 blocks.
+// The pass over at most 64 blocks.
 fn pass_small(store: &[u8], n: usize) -> Opened
-    requires { ⌜ (length (now store) ≡ n * 512) × (1 ≤ n) × (n ≤ 64) ⌝ }
+    requires { ⌜ (n * 512 ≤ length (now store)) × (1 ≤ n) × (n ≤ 64) ⌝ }
     ensures { λ x. ⌜ x ≡ passedAll n (now (store .entry)) ⌝ }
 {
     let mut tab: [u16; 2048] = [0; 2048];
     pass(store, n, &mut tab)
 }
 
-// The pass over a store of at most 4,096 blocks.
+// The pass over at most 4,096 blocks.
 fn pass_large(store: &[u8], n: usize) -> Opened
-    requires { ⌜ (length (now store) ≡ n * 512) × (1 ≤ n) × (n ≤ 4096) ⌝ }
+    requires { ⌜ (n * 512 ≤ length (now store)) × (1 ≤ n) × (n ≤ 4096) ⌝ }
     ensures { λ x. ⌜ x ≡ passedAll n (now (store .entry)) ⌝ }
 {
     let mut tab: [u16; 131072] = [0; 131072];
     pass(store, n, &mut tab)
+}
+
+// How many blocks there are up to the last that is not all zero.
+fn filled(store: &[u8], n: usize) -> usize
+    requires { ⌜ n * 512 ≤ length (now store) ⌝ }
+    ensures { λ r. ⌜ (r ≡ filledIn n (now (store .entry))) × (r ≤ n) ⌝ }
+{
+    let mut f = n;
+    while 0 < f {
+        let a = (f - 1) * 512;
+        let e = a + 512;
+        if !block::is_zero(&store[a..e]) {
+            return f;
+        }
+        f -= 1;
+    }
+    0
+}
+
+// Of f blocks up to the last that is not all zero, how many are checked: all but that one, and the label.
+fn counted(f: usize) -> usize
+    ensures { λ r. ⌜ (r ≡ countedBy f) × (r ≤ f) ⌝ }
+{
+    if f <= 1 {
+        return f;
+    }
+    f - 1
+}
+
+// The same f blocks without the last, if its check is wrong.
+fn whole(store: &[u8], f: usize) -> usize
+    requires { ⌜ 1 ≤ f ⌝ }
+    ensures { λ r. ⌜ (r ≡ wholeBy f (now (store .entry))) × (1 ≤ r) × (r ≤ f) ⌝ }
+{
+    if f == 1 {
+        return f;
+    }
+    if block::check_at(store, f - 1) {
+        return f;
+    }
+    f - 1
 }
 
 // The store's refusal, if it is one of 1 to 3, or its last revision and used blocks.
@@ -350,17 +361,22 @@ pub fn open(store: &[u8]) -> Opened
     if 4096 < n {
         return Opened::Refused(Refusal::StoreLength);
     }
-    if !all_sealed(store, n) {
+    let f = filled(store, n);
+    if f == 0 {
+        return Opened::Refused(Refusal::StoreLayout);
+    }
+    if !all_sealed(store, counted(f)) {
         return Opened::Refused(Refusal::StoreCheck);
     }
-    if !all_shaped(store, n) {
+    let m = whole(store, f);
+    if !all_shaped(store, m) {
         return Opened::Refused(Refusal::StoreLayout);
     }
     if shape::kind(&store[0..512]) != 1 {
         return Opened::Refused(Refusal::StoreLayout);
     }
-    if n <= 64 {
-        return pass_small(store, n);
+    if m <= 64 {
+        return pass_small(store, m);
     }
-    pass_large(store, n)
+    pass_large(store, m)
 }

@@ -14,7 +14,7 @@ use Rattle.model.specs.History.{Bytes, History, present, sheet}
 use Rattle.model.specs.Invariant.{Base, FitsAt}
 use Rattle.model.specs.Machine.{asIn, orElse, revertedOf}
 use Rattle.model.specs.Refusals.{lacking}
-use Rattle.model.specs.Store.{blockCount, storeBlocks, storeHistory}
+use Rattle.model.specs.Store.{blockCount, storeBlocks, storeHistory, usedOf}
 use Rattle.model.specs.Types.{entryAs}
 use Rattle.model.specs.WorkCopy.{FitsCopyBlock, copyBytes, entriesOf, entryBlock, seatOf}
 use Rattle.model.specs.declared.Entry.{Entry as TheEntry}
@@ -22,15 +22,15 @@ use Rattle.model.specs.declared.Span.{Span}
 use Rattle.model.specs.declared.State.{State}
 use Rattle.model.specs.declared.State.the-variants.{Added, Copied, Deleted, Empty, Normal}
 use Rattle.laws.proofs.Invariant.{fits-reverted, fits-updated}
-use Rattle.laws.proofs.Places.{store-place}
-use Rattle.laws.proofs.Store.{taken-holds}
-use Rattle.laws.proofs.Writing.{holds-blocks}
-use Rattle.entries.proofs.Looking.{found-inside, found-none, found-some}
+use Rattle.laws.proofs.Places.{taken-held}
+use Rattle.laws.proofs.Used.{own-room}
+use Rattle.entries.proofs.Looking.{found-none, found-some, found-used}
 use Rattle.entries.proofs.States.{as-read}
 use Rattle.entries.specs.View.{Fitting, Stands, UpdateIs, entryIn, rebased, updatedAs}
 use Rattle.entries.specs.declared.Update.{Update}
 use Rattle.entries.specs.declared.Update.the-variants.{Conflict, Rebase, Stay, Take}
 use Rattle.entries.specs.declared.View.{View}
+use Rattle.search.proofs.Finding.{block-span}
 use Rattle.search.specs.Find.{Spanned, foundIn}
 use Rattle.search.specs.declared.Found.{Found}
 use Rattle.updates.proofs.Keeping.{fits-limits, kept}
@@ -40,16 +40,20 @@ use Rattle.workcopy.specs.Copy.{Carries, PutOk, Reading, bytesIn}
 
 -- ---- a block of the store
 
+pub block-there : {store copy : Bytes} {k r p : ℕ} → Takable store copy k r p → p < blockCount store
+block-there {store} T = omega (arith, T .block, own-room store (T .clear))
+
 module _ {store copy : Bytes} {k r p : ℕ} (T : Takable store copy k r p) {x : Span} (s : Spanned store p x) where
   -- its bytes stand in the store
+  span-is : x ≡ record { start = 512 * p + 16; len = length (bytesAt (storeBlocks store) p) }
+  span-is = s .is ∙ block-span store (blockCount store) (usedOf store) (record { clear = T .clear; count = refl; inUse = refl }) p (T .block)
+
   taken-bytes : take (x .start + x .len - x .start) (drop (x .start) store) ≡ bytesAt (storeBlocks store) p
   taken-bytes =
-      let B = holds-blocks (blockCount store) store (storeHistory store) (taken-holds store (T .clear)) in
       let n : x .start + x .len - x .start ≡ x .len = omega arith in
       ap (λ (n : ℕ). take n (drop (x .start) store)) n
-      ∙ ap (λ (x : Span). take (x .len) (drop (x .start) store)) (s .is)
-      ∙ ap (λ (l : Bytes). take (length (bytesAt (storeBlocks store) p)) (drop (512 * p + 16) l)) (sym (B .bytes))
-      ∙ store-place (storeBlocks store) p (B .fit)
+      ∙ ap (λ (x : Span). take (x .len) (drop (x .start) store)) span-is
+      ∙ taken-held store (T .clear) p (T .block)
 
   pub take-leaves : {t : Bytes} → t ≡ copyBytes (seatOf copy) (set (entriesOf copy) k (normal r (take (x .start + x .len - x .start) (drop (x .start) store))))
       → t ≡ copyBytes (seatOf copy) (set (entriesOf copy) k (normal r (bytesAt (storeBlocks store) p)))
@@ -60,7 +64,7 @@ module _ {store copy : Bytes} {k r p : ℕ} (T : Takable store copy k r p) {x : 
     copy = T .accepted;
     inside = T .inside;
     fit = record {
-      whole = ap length taken-bytes ∙ sym (ap (λ (x : Span). x .len) (s .is));
+      whole = ap length taken-bytes ∙ sym (ap (λ (x : Span). x .len) span-is);
       carries = tt;
       fits = subst (λ (b : Bytes). FitsCopyBlock (entryBlock (normal r b))) (sym taken-bytes) (T .fits);
     };
@@ -73,7 +77,7 @@ module _ {store copy : Bytes} {v : View} (F : Fitting store copy v) where
   abbrev put : ℕ → Entry → Bytes
   put k e = copyBytes (seatOf copy) (set (entriesOf copy) k e)
 
-  takable : {k r p : ℕ} → k < 32 → p < blockCount store → FitsAt h k (normal r (bytesAt (storeBlocks store) p)) → Takable store copy k r p
+  takable : {k r p : ℕ} → k < 32 → p < usedOf store → FitsAt h k (normal r (bytesAt (storeBlocks store) p)) → Takable store copy k r p
   takable {k} {r} {p} g n f = record {
     clear = F .viewed .opened .accepted .clear;
     accepted = F .viewed .accepted;
@@ -104,7 +108,7 @@ module _ {store copy : Bytes} {v : View} (F : Fitting store copy v) where
 
     pub sheet-takable : k < 32 → Takable store copy k b (f .block)
     sheet-takable g =
-        takable g (found-inside store v (F .viewed .opened) b k near e) (subst (FitsAt h k) base-taken (fits-reverted h k (deleted b) (kept store copy v F .sound) B))
+        takable g (found-used store v (F .viewed .opened) b k near e) (subst (FitsAt h k) base-taken (fits-reverted h k (deleted b) (kept store copy v F .sound) B))
 
     pub sheet-taken : {t : Bytes} → t ≡ put k (normal b (bytesAt (storeBlocks store) (f .block))) → t ≡ put k (asIn b (sheet h b k))
     sheet-taken w = w ∙ ap (put k) (sym base-taken)

@@ -10,7 +10,7 @@ use Rattle.model.specs.Entry.{Entry, normal}
 use Rattle.model.specs.History.{Bytes, History}
 use Rattle.model.specs.Machine.{orElse, updatedTo}
 use Rattle.model.specs.Refusals.{conflict, firstOf}
-use Rattle.model.specs.Store.{blockCount, storeBlocks, storeHistory}
+use Rattle.model.specs.Store.{storeBlocks, storeHistory, usedOf}
 use Rattle.model.specs.WorkCopy.{FitsCopyBlock, entryBlock}
 use Rattle.model.specs.declared.State.{State}
 use Rattle.model.specs.declared.State.the-variants.{Added, Copied, Deleted, Empty, Normal}
@@ -32,10 +32,10 @@ rebasedState R Added = Added
 rebasedState R (Deleted b) = Deleted R
 rebasedState R (Copied s) = Copied s
 
--- block p of an accepted store can be taken into entry k of an accepted copy, with base r
+-- used block p of an accepted store can be taken into entry k of an accepted copy, with base r
 pub record Takable (store copy : Bytes) (k r p : ℕ) : Type 0 where
   pub clear : firstOf (storeConditions store) ≡ none
   pub accepted : Accepted copy
   pub inside : k < 32
-  pub block : p < blockCount store
+  pub block : p < usedOf store
   pub fits : FitsCopyBlock (entryBlock (normal r (bytesAt (storeBlocks store) p)))

@@ -2,7 +2,7 @@
 -- Assumes nothing.
 use mathlib.Core.Path.{_∙_, _≡_, ap, sym}
 use borrow.Author.Needs.{needs}
-use Rattle.model.specs.Calls.{Place}
+use Rattle.model.specs.Calls.{Created, Place}
 use Rattle.model.specs.History.{Bytes}
 use Rattle.model.specs.Machine.{Answer}
 use Rattle.inner.proofs.Performing.{none-inside}
@@ -87,6 +87,12 @@ enum-known-named-12 c = search needs
 
 log-requires : tie.Need-log-requires
 log-requires c κs = search needs
+
+enum-told : tie.Need-enum-told
+enum-told c = search needs
+
+clear-requires : tie.Need-clear-requires
+clear-requires c κs = search needs
 
 same-length : tie.Need-same-length
 same-length c = search needs
@@ -198,6 +204,14 @@ returns-12 c =
     let a = c .before .before .before .before .before .before .before .before .args in
     (meant (a .store .now) (a .copy .now) (a .bytes .now) (c .before .before .before .named12 .given .1) (ap (λ (s : Answer). answered (says s) (a .store .now) (a .copy .now)) (c .log .ensures)), tt)
 
+same-length-23 : tie.Need-same-length-23
+same-length-23 c = search needs
+
+returns-13 : tie.Need-returns-13
+returns-13 c =
+    let a = c .before .before .before .before .before .before .before .before .before .args in
+    (meant (a .store .now) (a .copy .now) (a .bytes .now) (c .before .before .before .before .enum-told .given .1) (ap (λ (o : Created). answered (says (o .says)) (o .buffer) (a .copy .now)) (c .before .before .clear .ensures)), tt)
+
 pub call-named-spec : {M : Type 1} → statement M
 call-named-spec =
     tie.close
@@ -226,6 +240,8 @@ call-named-spec =
     status-requires
     enum-known-named-12
     log-requires
+    enum-told
+    clear-requires
     same-length
     same-length-2
     returns
@@ -259,4 +275,6 @@ call-named-spec =
     same-length-21
     returns-11
     same-length-22
-    returns-12)
+    returns-12
+    same-length-23
+    returns-13)

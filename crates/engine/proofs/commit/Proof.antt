@@ -1,57 +1,51 @@
--- `engine::commit` meets its contract: refused as the check says, or done as the inner commit does it.
+-- `engine::commit` meets its contract: the refusal of `open`, or the commit on an open store.
 -- Assumes nothing.
 use mathlib.Core.Path.{_∙_, sym}
-use Rattle.entries.proofs.Checking.{check-ready}
 use Rattle.model.specs.Machine.{Commits}
-use Rattle.inner.proofs.Changing.{inner-done, refused-call}
+use Rattle.inner.proofs.Changing.{refused-store}
 use borrow.Author.Needs.{needs}
 use Rattle.engine.proofs.commit.Statement.{statement}
 use Rattle.engine.proofs.commit.Tie as tie
 
-check-requires : tie.Need-check-requires
-check-requires c κs = search needs
+open-requires : tie.Need-open-requires
+open-requires c κs = search needs
 
-enum-known-c : tie.Need-enum-known-c
-enum-known-c c = search needs
+enum-known-opened : tie.Need-enum-known-opened
+enum-known-opened c = search needs
 
-enum-known-c-2 : tie.Need-enum-known-c-2
-enum-known-c-2 c = search needs
+enum-known-opened-2 : tie.Need-enum-known-opened-2
+enum-known-opened-2 c = search needs
 
-commit-requires : tie.Need-commit-requires
-commit-requires c κs = let a = c .before .before .before .before .before .before .before .before .before .before .args in check-ready (a .store .now) (a .copy .now) (c .before .before .before .c2 .given .0 .0) (sym (c .before .before .before .before .before .check .ensures) ∙ c .before .before .before .c2 .given .1)
+commit-open-requires : tie.Need-commit-open-requires
+commit-open-requires c κs = sym (c .before .before .before .before .before .«open» .ensures) ∙ c .before .before .before .opened2 .given .1
 
 same-length : tie.Need-same-length
 same-length c = search needs
 
-same-length-2 : tie.Need-same-length-2
-same-length-2 c = search needs
-
 returns : tie.Need-returns
 returns c =
-    let a = c .before .before .before .before .before .before .before .before .args in refused-call (a .store .now) (a .copy .now) (c .before .c .given .0 .0) (Commits (a .stamp) (a .mask)) (sym (c .before .before .before .check .ensures) ∙ c .before .c .given .1)
+    let a = c .before .before .before .before .before .before .before .args in
+    refused-store (a .store .now) (a .copy .now) (c .before .opened .given .0 .0) (Commits (a .stamp) (a .mask)) (sym (c .before .before .before .«open» .ensures) ∙ c .before .opened .given .1)
+
+same-length-2 : tie.Need-same-length-2
+same-length-2 c = search needs
 
 same-length-3 : tie.Need-same-length-3
 same-length-3 c = search needs
 
-same-length-4 : tie.Need-same-length-4
-same-length-4 c = search needs
-
 returns-2 : tie.Need-returns-2
-returns-2 c =
-    let a = c .before .before .before .before .before .before .before .before .before .before .before .before .before .before .before .args in
-    inner-done (a .store .now) (a .copy .now) (c .before .before .before .before .before .before .before .before .c2 .given .0 .0) (Commits (a .stamp) (a .mask)) (sym (c .before .before .before .before .before .before .before .before .before .before .check .ensures) ∙ c .before .before .before .before .before .before .before .before .c2 .given .1) (c .before .before .before .before .commit .ensures .is)
+returns-2 c = search needs
 
 pub commit-spec : {M : Type 1} → statement M
 commit-spec =
     tie.close
     (tie.spec
-    check-requires
-    enum-known-c
-    enum-known-c-2
-    commit-requires
+    open-requires
+    enum-known-opened
+    enum-known-opened-2
+    commit-open-requires
     same-length
-    same-length-2
     returns
+    same-length-2
     same-length-3
-    same-length-4
     returns-2)

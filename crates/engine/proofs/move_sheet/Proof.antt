@@ -28,7 +28,7 @@ same-length c = search needs
 returns : tie.Need-returns
 returns c =
     let a = c .before .before .before .before .before .before .before .args in
-    refused-call (a .store .now) (a .copy .now) (c .before .c .given .0 .0) (Move (a .from) (a .to)) (sym (c .before .before .before .check .ensures) ∙ c .before .c .given .1)
+    refused-call (a .store .now) (a .copy .now) (c .before .c .given .0 .0) (Move (a .from) (a .to)) tt (sym (c .before .before .before .check .ensures) ∙ c .before .c .given .1)
 
 same-length-2 : tie.Need-same-length-2
 same-length-2 c = search needs

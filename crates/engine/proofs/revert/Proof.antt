@@ -28,7 +28,7 @@ same-length c = search needs
 returns : tie.Need-returns
 returns c =
     let a = c .before .before .before .before .before .before .before .args in
-    refused-call (a .store .now) (a .copy .now) (c .before .c .given .0 .0) (Revert (a .mask)) (sym (c .before .before .before .check .ensures) ∙ c .before .c .given .1)
+    refused-call (a .store .now) (a .copy .now) (c .before .c .given .0 .0) (Revert (a .mask)) tt (sym (c .before .before .before .check .ensures) ∙ c .before .c .given .1)
 
 same-length-2 : tie.Need-same-length-2
 same-length-2 c = search needs
@@ -36,7 +36,7 @@ same-length-2 c = search needs
 returns-2 : tie.Need-returns-2
 returns-2 c =
     let a = c .before .before .before .before .before .before .before .before .before .before .before .args in
-    inner-done (a .store .now) (a .copy .now) (c .before .before .before .before .before .c2 .given .0 .0) (Revert (a .mask)) (sym (c .before .before .before .before .before .before .before .check .ensures) ∙ c .before .before .before .before .before .c2 .given .1) (c .before .before .revert .ensures)
+    inner-done (a .store .now) (a .copy .now) (c .before .before .before .before .before .c2 .given .0 .0) (Revert (a .mask)) tt (sym (c .before .before .before .before .before .before .before .check .ensures) ∙ c .before .before .before .before .before .c2 .given .1) (c .before .before .revert .ensures)
 
 pub revert-spec : {M : Type 1} → statement M
 revert-spec =

@@ -17,7 +17,7 @@ unlike-requires : tie.Need-unlike-requires
 unlike-requires c κs =
     let k = c .before .before .before in
     let v = k .pre .0 in
-    (v .opened .accepted .clear, v .accepted, k .pre .1, holding-found (k .args .store .now) (k .args .v) (v .opened) (k .args .r) (k .args .s) (k .pre .2) (c .look-up .ensures) .inside)
+    (v .opened .accepted .clear, v .accepted, k .pre .1, holding-found (k .args .store .now) (k .args .v) (v .opened) (k .args .r) (k .args .s) (k .pre .2) (c .look-up .ensures) .used)
 
 returns : tie.Need-returns
 returns c =

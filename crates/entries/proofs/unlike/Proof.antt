@@ -3,6 +3,7 @@
 use Prim.Native.Nat.{_*_, _+_, _-_}
 use native.Mathlib.Omega.{arith}
 use borrow.Author.Needs.{needs}
+use Rattle.laws.proofs.Store.{taken-room}
 use Rattle.entries.proofs.Comparing.{unlike-held, unlike-none}
 use Rattle.entries.proofs.unlike.Statement.{statement}
 use Rattle.entries.proofs.unlike.Tie as tie
@@ -11,7 +12,7 @@ returns : tie.Need-returns
 returns c = let k = c .before .before .before in unlike-none (k .args .store .now) (k .args .copy .now) (k .args .i) (k .args .p) (c .if1 .taken)
 
 span-at-requires : tie.Need-span-at-requires
-span-at-requires c κs = search needs
+span-at-requires c κs = let k = c .before .before .before in omega (arith, k .pre .3, taken-room (k .args .store .now) (k .pre .0))
 
 add-b : tie.Need-add-b
 add-b c = search needs
@@ -59,7 +60,7 @@ returns-2 c =
     let e = c .before .before .before .before .entry-at .result in
     unlike-held (k .args .store .now) (k .args .copy .now) (k .args .i) (k .args .p)
     (512 * (k .args .i + 1) + 16 + e .len - (512 * (k .args .i + 1) + 16)) (q .start + q .len - q .start)
-    (k .pre .0) (c .before .before .before .before .before .before .before .if1 .left) (c .before .before .before .before .before .before .span-at .ensures) (c .before .before .before .before .entry-at .ensures) (omega arith) (omega arith) (c .same-part .ensures)
+    (k .pre .0) (k .pre .3) (c .before .before .before .before .before .before .before .if1 .left) (c .before .before .before .before .before .before .span-at .ensures) (c .before .before .before .before .entry-at .ensures) (omega arith) (omega arith) (c .same-part .ensures)
 
 pub unlike-spec : {M : Type 1} → statement M
 unlike-spec =

@@ -3,7 +3,7 @@
 use native.Mathlib.Omega.{arith}
 use borrow.Author.Needs.{needs}
 use borrow.Author.Tests.{not-false, not-true}
-use Rattle.entries.proofs.Looking.{found-inside}
+use Rattle.entries.proofs.Looking.{found-used}
 use Rattle.entries.proofs.States.{deleted-base, normal-base}
 use Rattle.entries.proofs.Updating.{agreed-added, agreed-copied, agreed-modified, conflict-deleted, stay-added, stay-copied, update-deleted, update-empty, update-modified, update-unmodified}
 use Rattle.entries.proofs.update_of.Statement.{statement}
@@ -37,7 +37,7 @@ unlike-requires : tie.Need-unlike-requires
 unlike-requires c κs =
     let k = c .before .before .before .before .before .before .before .before in
     let w = k .pre .0 .viewed in
-    (w .opened .accepted .clear, w .accepted, k .pre .1, found-inside (k .args .store .now) (k .args .v) (w .opened) (_) (k .args .i) (normal-base (k .args .store .now) (k .args .copy .now) (k .args .v) (k .pre .0) (c .before .before .before .before .entry-at .ensures) (c .before .before .state .given .1)) (c .look-up2 .ensures))
+    (w .opened .accepted .clear, w .accepted, k .pre .1, found-used (k .args .store .now) (k .args .v) (w .opened) (_) (k .args .i) (normal-base (k .args .store .now) (k .args .copy .now) (k .args .v) (k .pre .0) (c .before .before .before .before .entry-at .ensures) (c .before .before .state .given .1)) (c .look-up2 .ensures))
 
 taken-requires-2 : tie.Need-taken-requires-2
 taken-requires-2 c κs = search needs
@@ -58,7 +58,7 @@ agreed-requires : tie.Need-agreed-requires
 agreed-requires c κs =
     let k = c .before .before .before .before .before .before .before .before .before .before .before .before .before in
     let w = k .pre .0 .viewed in
-    (w .opened .accepted .clear, w .accepted, k .pre .1, found-inside (k .args .store .now) (k .args .v) (w .opened) (k .args .r) (k .args .i) (k .pre .2) (c .before .before .before .before .before .before .before .before .before .before .look-up .ensures))
+    (w .opened .accepted .clear, w .accepted, k .pre .1, found-used (k .args .store .now) (k .args .v) (w .opened) (k .args .r) (k .args .i) (k .pre .2) (c .before .before .before .before .before .before .before .before .before .before .look-up .ensures))
 
 enum-told-2 : tie.Need-enum-told-2
 enum-told-2 c = search needs
@@ -73,7 +73,7 @@ agreed-requires-2 : tie.Need-agreed-requires-2
 agreed-requires-2 c κs =
     let k = c .before .before .before .before .before .before .before in
     let w = k .pre .0 .viewed in
-    (w .opened .accepted .clear, w .accepted, k .pre .1, found-inside (k .args .store .now) (k .args .v) (w .opened) (k .args .r) (k .args .i) (k .pre .2) (c .before .before .before .before .look-up .ensures))
+    (w .opened .accepted .clear, w .accepted, k .pre .1, found-used (k .args .store .now) (k .args .v) (w .opened) (k .args .r) (k .args .i) (k .pre .2) (c .before .before .before .before .look-up .ensures))
 
 enum-known-state-2 : tie.Need-enum-known-state-2
 enum-known-state-2 c = search needs
@@ -106,7 +106,7 @@ agreed-requires-3 : tie.Need-agreed-requires-3
 agreed-requires-3 c κs =
     let k = c .before .before .before .before .before .before .before in
     let w = k .pre .0 .viewed in
-    (w .opened .accepted .clear, w .accepted, k .pre .1, found-inside (k .args .store .now) (k .args .v) (w .opened) (k .args .r) (k .args .i) (k .pre .2) (c .before .before .before .before .look-up .ensures))
+    (w .opened .accepted .clear, w .accepted, k .pre .1, found-used (k .args .store .now) (k .args .v) (w .opened) (k .args .r) (k .args .i) (k .pre .2) (c .before .before .before .before .look-up .ensures))
 
 returns-6 : tie.Need-returns-6
 returns-6 c =

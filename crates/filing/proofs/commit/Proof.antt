@@ -14,7 +14,7 @@ unfiled-requires c κs = search needs
 returns : tie.Need-returns
 returns c =
     let a = c .before .before .before .before .args in
-    filed-refused (a .store .now) (a .copy .now) (a .v) (c .before .before .before .before .pre) (a .stamp) (a .mask) Range (c .unfiled .ensures) (commit-none (a .store .now) (a .copy .now) (a .stamp) (a .mask) (c .before .if1 .taken))
+    filed-refused (a .store .now) (a .copy .now) (a .v) (c .before .before .before .before .pre .0) (a .stamp) (a .mask) Range (c .unfiled .ensures) (commit-none (a .store .now) (a .copy .now) (a .stamp) (a .mask) (c .before .if1 .taken))
 
 any-stale-requires : tie.Need-any-stale-requires
 any-stale-requires c κs = search needs
@@ -31,17 +31,17 @@ same-length-2 c = search needs
 returns-2 : tie.Need-returns-2
 returns-2 c =
     let a = c .before .before .before .before .before .before .before .before .args in
-    filed-refused (a .store .now) (a .copy .now) (a .v) (c .before .before .before .before .before .before .before .before .pre) (a .stamp) (a .mask) OutOfDate (c .unfiled2 .ensures)
+    filed-refused (a .store .now) (a .copy .now) (a .v) (c .before .before .before .before .before .before .before .before .pre .0) (a .stamp) (a .mask) OutOfDate (c .unfiled2 .ensures)
     (commit-stale (a .store .now) (a .copy .now) (a .stamp) (a .mask) (c .before .before .before .before .before .if1 .left) (c .before .before .any-stale .ensures) (c .before .if2 .taken))
 
 note-flags-requires : tie.Need-note-flags-requires
 note-flags-requires c κs = search needs
 
 add-next : tie.Need-add-next
-add-next c = let a = c .before .before .before .before .before .before .before .before .before .before .before .before .args in omega (arith, next-small (a .store .now) (a .copy .now) (a .v) (c .before .before .before .before .before .before .before .before .before .before .before .before .pre))
+add-next c = let a = c .before .before .before .before .before .before .before .before .before .before .before .before .args in omega (arith, next-small (a .store .now) (a .copy .now) (a .v) (c .before .before .before .before .before .before .before .before .before .before .before .before .pre .0))
 
 cast-seat : tie.Need-cast-seat
-cast-seat c = let a = c .before .before .before .before .before .before .before .before .before .before .before .before .before .args in omega (arith, seat-small (a .store .now) (a .copy .now) (a .v) (c .before .before .before .before .before .before .before .before .before .before .before .before .before .pre))
+cast-seat c = let a = c .before .before .before .before .before .before .before .before .before .before .before .before .before .args in omega (arith, seat-small (a .store .now) (a .copy .now) (a .v) (c .before .before .before .before .before .before .before .before .before .before .before .before .before .pre .0))
 
 slice-aggregate-commit-chosen : tie.Need-slice-aggregate-commit-chosen
 slice-aggregate-commit-chosen c = search needs
@@ -50,7 +50,7 @@ slice-aggregate-commit-chosen-2 : tie.Need-slice-aggregate-commit-chosen-2
 slice-aggregate-commit-chosen-2 c = search needs
 
 commit-chosen-requires : tie.Need-commit-chosen-requires
-commit-chosen-requires c κs = let a = c .before .before .before .before .before .before .before .before .before .before .before .before .before .before .before .before .before .args in may-commit (a .store .now) (a .copy .now) (a .v) (c .before .before .before .before .before .before .before .before .before .before .before .before .before .before .before .before .before .pre) (c .before .before .before .before .before .before .before .note-flags .ensures)
+commit-chosen-requires c κs = let a = c .before .before .before .before .before .before .before .before .before .before .before .before .before .before .before .before .before .args in may-commit (a .store .now) (a .copy .now) (a .v) (c .before .before .before .before .before .before .before .before .before .before .before .before .before .before .before .before .before .pre .0) (c .before .before .before .before .before .before .before .before .before .before .before .before .before .before .before .before .before .pre .1) (c .before .before .before .before .before .before .before .note-flags .ensures)
 
 enum-told : tie.Need-enum-told
 enum-told c = search needs
@@ -68,13 +68,13 @@ enum-known-o : tie.Need-enum-known-o
 enum-known-o c = search needs
 
 cast-revision : tie.Need-cast-revision
-cast-revision c = let a = c .before .before .before .before .before .before .before .before .before .before .before .before .before .before .before .before .before .before .before .before .before .before .before .args in omega (arith, next-small (a .store .now) (a .copy .now) (a .v) (c .before .before .before .before .before .before .before .before .before .before .before .before .before .before .before .before .before .before .before .before .before .before .before .pre))
+cast-revision c = let a = c .before .before .before .before .before .before .before .before .before .before .before .before .before .before .before .before .before .before .before .before .before .before .before .args in omega (arith, next-small (a .store .now) (a .copy .now) (a .v) (c .before .before .before .before .before .before .before .before .before .before .before .before .before .before .before .before .before .before .before .before .before .before .before .pre .0))
 
 slice-aggregate-settle : tie.Need-slice-aggregate-settle
 slice-aggregate-settle c = search needs
 
 settle-requires : tie.Need-settle-requires
-settle-requires c κs = let a = c .before .before .before .before .before .before .before .before .before .before .before .before .before .before .before .before .before .before .before .before .before .before .before .before .before .args in (may-settle (a .store .now) (a .copy .now) (a .v) (c .before .before .before .before .before .before .before .before .before .before .before .before .before .before .before .before .before .before .before .before .before .before .before .before .before .pre), c .before .before .before .before .before .before .before .before .before .before .before .before .before .before .before .note-flags .ensures .flags)
+settle-requires c κs = let a = c .before .before .before .before .before .before .before .before .before .before .before .before .before .before .before .before .before .before .before .before .before .before .before .before .before .args in (may-settle (a .store .now) (a .copy .now) (a .v) (c .before .before .before .before .before .before .before .before .before .before .before .before .before .before .before .before .before .before .before .before .before .before .before .before .before .pre .0), c .before .before .before .before .before .before .before .before .before .before .before .before .before .before .before .note-flags .ensures .flags)
 
 same-length-3 : tie.Need-same-length-3
 same-length-3 c = search needs
@@ -85,7 +85,7 @@ same-length-4 c = search needs
 returns-3 : tie.Need-returns-3
 returns-3 c =
     let a = c .before .before .before .before .before .before .before .before .before .before .before .before .before .before .before .before .before .before .before .before .before .before .before .args in
-    filed-refused (a .store .now) (a .copy .now) (a .v) (c .before .before .before .before .before .before .before .before .before .before .before .before .before .before .before .before .before .before .before .before .before .before .before .pre) (a .stamp) (a .mask) NothingPending (c .unfiled3 .ensures)
+    filed-refused (a .store .now) (a .copy .now) (a .v) (c .before .before .before .before .before .before .before .before .before .before .before .before .before .before .before .before .before .before .before .before .before .before .before .pre .0) (a .stamp) (a .mask) NothingPending (c .unfiled3 .ensures)
     (commit-nothing (a .store .now) (a .copy .now) (a .stamp) (a .mask) (c .before .before .before .before .before .before .before .before .before .before .before .before .before .before .before .before .before .before .before .before .if1 .left) (c .before .enum-told .given .1) (c .before .before .before .before .before .commit-chosen .ensures))
 
 same-length-5 : tie.Need-same-length-5
@@ -97,7 +97,7 @@ same-length-6 c = search needs
 returns-4 : tie.Need-returns-4
 returns-4 c =
     let a = c .before .before .before .before .before .before .before .before .before .before .before .before .before .before .before .before .before .before .before .before .before .before .before .args in
-    filed-refused (a .store .now) (a .copy .now) (a .v) (c .before .before .before .before .before .before .before .before .before .before .before .before .before .before .before .before .before .before .before .before .before .before .before .pre) (a .stamp) (a .mask) NoRoom (c .unfiled4 .ensures)
+    filed-refused (a .store .now) (a .copy .now) (a .v) (c .before .before .before .before .before .before .before .before .before .before .before .before .before .before .before .before .before .before .before .before .before .before .before .pre .0) (a .stamp) (a .mask) NoRoom (c .unfiled4 .ensures)
     (commit-no-room (a .store .now) (a .copy .now) (a .stamp) (a .mask) (c .before .before .before .before .before .before .before .before .before .before .before .before .before .before .before .before .before .before .before .before .if1 .left) (c .before .before .before .before .before .before .before .before .before .before .before .before .before .before .before .before .before .any-stale .ensures) (c .before .before .before .before .before .before .before .before .before .before .before .before .before .before .before .before .if2 .left) (c .before .before .before .before .before .commit-chosen .ensures) (c .before .enum-told2 .given .1))
 
 same-length-7 : tie.Need-same-length-7
@@ -110,9 +110,9 @@ returns-5 : tie.Need-returns-5
 returns-5 c =
     let a = c .before .before .before .before .before .before .before .before .before .before .before .before .before .before .before .before .before .before .before .before .before .before .before .before .before .before .before .before .args in
     let P = c .before .before .before .before .before .before .before .before .before .before .before .before .before .before .before .before .before .before .before .before .before .before .before .before .before .before .before .before .pre in
-    filed-done (a .store .now) (a .copy .now) (a .v) P (a .stamp) (a .mask) (omega (arith, c .before .before .before .before .before .before .before .before .before .before .before .before .before .before .before .before .before .before .before .before .before .before .before .before .before .before .before .before .fits .stamp)) (c .before .before .before .before .before .before .before .before .before .before .commit-chosen .ensures) (c .before .before .before .before .before .before .o .given .1)
+    filed-done (a .store .now) (a .copy .now) (a .v) (P .0) (a .stamp) (a .mask) (P .1) (omega (arith, c .before .before .before .before .before .before .before .before .before .before .before .before .before .before .before .before .before .before .before .before .before .before .before .before .before .before .before .before .fits .stamp)) (c .before .before .before .before .before .before .before .before .before .before .commit-chosen .ensures) (c .before .before .before .before .before .before .o .given .1)
     (commit-done (a .store .now) (a .copy .now) (a .stamp) (a .mask) (c .before .before .before .before .before .before .before .before .before .before .before .before .before .before .before .before .before .before .before .before .before .before .before .before .before .if1 .left) (c .before .before .before .before .before .before .before .before .before .before .before .before .before .before .before .before .before .before .before .before .before .before .any-stale .ensures) (c .before .before .before .before .before .before .before .before .before .before .before .before .before .before .before .before .before .before .before .before .before .if2 .left) (c .before .before .before .before .before .before .before .before .before .before .commit-chosen .ensures) (c .before .before .before .before .before .before .o .given .1)
-    (next-is (a .store .now) (a .copy .now) (a .v) P) (left-committed (a .store .now) (a .copy .now) (a .v) P (c .before .before .before .before .before .before .before .before .before .before .before .before .before .before .before .before .before .before .note-flags .ensures) (c .before .before .settle .ensures)))
+    (next-is (a .store .now) (a .copy .now) (a .v) (P .0)) (left-committed (a .store .now) (a .copy .now) (a .v) (P .0) (c .before .before .before .before .before .before .before .before .before .before .before .before .before .before .before .before .before .before .note-flags .ensures) (c .before .before .settle .ensures)))
 
 pub commit-spec : {M : Type 1} → statement M
 commit-spec =

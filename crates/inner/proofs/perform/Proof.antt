@@ -3,7 +3,7 @@
 use native.Mathlib.Omega.{arith}
 use borrow.Author.Needs.{needs}
 use Rattle.model.specs.Machine.{Add, Copy, Delete, Edit, Move, Revert, Update}
-use Rattle.inner.proofs.Performing.{files, fitting-open, inner-is, local-is, logs, meant, reads, shows, states, stays}
+use Rattle.inner.proofs.Performing.{clears, files, fitting-open, inner-is, local-is, logs, meant, reads, shows, states, stays}
 use Rattle.inner.proofs.perform.Statement.{statement}
 use Rattle.inner.proofs.perform.Tie as tie
 use Rattle.inner.specs.declared.Reply.the-variants.{Said}
@@ -57,8 +57,8 @@ stay-requires-5 c κs = search needs
 enum-known-call-6 : tie.Need-enum-known-call-6
 enum-known-call-6 c = search needs
 
-commit-requires : tie.Need-commit-requires
-commit-requires c κs = search needs
+commit-in-requires : tie.Need-commit-in-requires
+commit-in-requires c κs = search needs
 
 enum-known-call-7 : tie.Need-enum-known-call-7
 enum-known-call-7 c = search needs
@@ -113,6 +113,15 @@ log-in-requires c κs = fitting-open (c .before .before .before .before .before 
 
 stay-requires-11 : tie.Need-stay-requires-11
 stay-requires-11 c κs = search needs
+
+enum-told : tie.Need-enum-told
+enum-told c = search needs
+
+clear-in-requires : tie.Need-clear-in-requires
+clear-in-requires c κs = let k = c .before .before .before .before .before .before in fitting-open (k .args .store .now) (k .args .copy .now) (k .args .v) (k .pre)
+
+stay-requires-12 : tie.Need-stay-requires-12
+stay-requires-12 c κs = search needs
 
 same-length : tie.Need-same-length
 same-length c = search needs
@@ -186,7 +195,7 @@ returns-6 c =
     let F = c .before .before .before .before .before .before .before .before .before .before .before .before .before .pre in
     let g = c .before .before .before .before .before .before .before .before .call6 .given in
     meant (a .store .now) (a .copy .now) (a .v) F (a .bytes .now) (g .1)
-    (files (a .store .now) (a .copy .now) (a .v) F (g .0 .0) (g .0 .1 .0) (omega (arith, c .before .before .before .before .before .before .before .known-told6 .given)) (c .before .before .before .before .commit .result) (c .before .before .before .before .commit .ensures))
+    (files (a .store .now) (a .copy .now) (a .v) F (g .0 .0) (g .0 .1 .0) (omega (arith, c .before .before .before .before .before .before .before .known-told6 .given)) (c .before .before .before .before .commit-in .result) (c .before .before .before .before .commit-in .ensures))
 
 same-length-8 : tie.Need-same-length-8
 same-length-8 c = search needs
@@ -201,7 +210,7 @@ returns-7 c =
     let g = c .before .before .before .before .before .before .before .call7 .given in
     let r = c .before .before .before .update .result in
     meant (a .store .now) (a .copy .now) (a .v) F (a .bytes .now) (g .1)
-    (stays (a .store .now) (a .copy .now) (a .v) F (Update (g .0 .0) (g .0 .1 .0)) tt (Said r) (inner-is (a .store .now) (a .copy .now) (a .v) F (Update (g .0 .0) (g .0 .1 .0)) r (c .before .before .before .update .ensures)) tt (c .stay6 .ensures))
+    (stays (a .store .now) (a .copy .now) (a .v) F (Update (g .0 .0) (g .0 .1 .0)) tt (Said r) (inner-is (a .store .now) (a .copy .now) (a .v) F (Update (g .0 .0) (g .0 .1 .0)) tt r (c .before .before .before .update .ensures)) tt (c .stay6 .ensures))
 
 same-length-10 : tie.Need-same-length-10
 same-length-10 c = search needs
@@ -216,7 +225,7 @@ returns-8 c =
     let g = c .before .before .before .before .before .before .before .call8 .given in
     let r = c .before .before .before .revert .result in
     meant (a .store .now) (a .copy .now) (a .v) F (a .bytes .now) (g .1)
-    (stays (a .store .now) (a .copy .now) (a .v) F (Revert (g .0 .0)) tt (Said r) (inner-is (a .store .now) (a .copy .now) (a .v) F (Revert (g .0 .0)) r (c .before .before .before .revert .ensures)) tt (c .stay7 .ensures))
+    (stays (a .store .now) (a .copy .now) (a .v) F (Revert (g .0 .0)) tt (Said r) (inner-is (a .store .now) (a .copy .now) (a .v) F (Revert (g .0 .0)) tt r (c .before .before .before .revert .ensures)) tt (c .stay7 .ensures))
 
 same-length-12 : tie.Need-same-length-12
 same-length-12 c = search needs
@@ -264,6 +273,16 @@ returns-12 c =
     let g = c .before .before .before .before .call12 .given in
     meant (a .store .now) (a .copy .now) (a .v) F (a .bytes .now) (g .1) (logs (a .store .now) (a .copy .now) (a .v) F (g .0 .0) (g .0 .1 .0) (c .before .log-in .result) (c .before .log-in .ensures) (c .stay11 .ensures))
 
+same-length-18 : tie.Need-same-length-18
+same-length-18 c = search needs
+
+returns-13 : tie.Need-returns-13
+returns-13 c =
+    let a = c .before .before .before .before .before .before .before .before .before .before .args in
+    let F = c .before .before .before .before .before .before .before .before .before .before .pre in
+    meant (a .store .now) (a .copy .now) (a .v) F (a .bytes .now) (c .before .before .before .before .before .enum-told .given .1)
+    (clears (a .store .now) (a .copy .now) (a .v) F (c .before .before .before .clear-in .result) (c .before .before .before .clear-in .ensures) (c .stay12 .ensures))
+
 pub perform-spec : {M : Type 1} → statement M
 perform-spec =
     tie.close
@@ -284,7 +303,7 @@ perform-spec =
     move-sheet-requires
     stay-requires-5
     enum-known-call-6
-    commit-requires
+    commit-in-requires
     enum-known-call-7
     update-requires
     stay-requires-6
@@ -303,6 +322,9 @@ perform-spec =
     enum-known-call-12
     log-in-requires
     stay-requires-11
+    enum-told
+    clear-in-requires
+    stay-requires-12
     same-length
     returns
     same-length-2
@@ -331,4 +353,6 @@ perform-spec =
     same-length-16
     returns-11
     same-length-17
-    returns-12)
+    returns-12
+    same-length-18
+    returns-13)

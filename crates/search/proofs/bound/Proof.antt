@@ -23,28 +23,28 @@ abbrev μ-loop : tie.MeasureT-loop
 loop-holds : tie.Need-loop-holds Inv-loop μ-loop
 loop-holds c = let k = c .before in let a = k .args in
     let P = passed (a .store .now) (a .n) (a .used) (k .pre) in
-    (omega arith, (omega (arith, used-low (a .store .now) (a .n) (a .used) P), omega arith), (λ p h g. absurd (omega arith)), (λ p h g. absurd (omega arith)))
+    (omega arith, (omega (arith, used-low (a .store .now) (a .used) (a .used) P), omega arith), (λ p h g. absurd (omega arith)), (λ p h g. absurd (omega arith)))
 
 add-mid : tie.Need-add-mid Inv-loop μ-loop
 add-mid c =
     let a = c .before .before .before .args in
     let P = passed (a .store .now) (a .n) (a .used) (c .before .before .before .pre) in
     let l = c .before .loop in
-    omega (arith, used-high (a .store .now) (a .n) (a .used) P, P .few)
+    omega (arith, used-high (a .store .now) (a .used) (a .used) P, P .few)
 
 mul-a : tie.Need-mul-a Inv-loop μ-loop
 mul-a c =
     let a = c .before .before .before .args in
     let P = passed (a .store .now) (a .n) (a .used) (c .before .before .before .pre) in
     let l = c .before .loop in
-    omega (arith, used-high (a .store .now) (a .n) (a .used) P, P .few)
+    omega (arith, used-high (a .store .now) (a .used) (a .used) P, P .few)
 
 add-e : tie.Need-add-e Inv-loop μ-loop
 add-e c =
     let a = c .before .before .before .args in
     let P = passed (a .store .now) (a .n) (a .used) (c .before .before .before .pre) in
     let l = c .before .loop in
-    omega (arith, used-high (a .store .now) (a .n) (a .used) P, P .few)
+    omega (arith, used-high (a .store .now) (a .used) (a .used) P, P .few)
 
 sub-two-at : tie.Need-sub-two-at Inv-loop μ-loop
 sub-two-at c = search needs
@@ -57,7 +57,7 @@ part-two-at-end c =
     let a = c .before .before .before .args in
     let P = passed (a .store .now) (a .n) (a .used) (c .before .before .before .pre) in
     let l = c .before .loop in
-    let u = used-high (a .store .now) (a .n) (a .used) P in let w = P .whole in search needs
+    let u = used-high (a .store .now) (a .used) (a .used) P in let w = P .whole in search needs
 
 two-at-requires : tie.Need-two-at-requires Inv-loop μ-loop
 two-at-requires c κs = search needs
@@ -70,7 +70,7 @@ add-lo c =
     let a = c .before .before .before .before .before .before .args in
     let P = passed (a .store .now) (a .n) (a .used) (c .before .before .before .before .before .before .pre) in
     let l = c .before .before .before .before .loop in
-    omega (arith, used-high (a .store .now) (a .n) (a .used) P, P .few)
+    omega (arith, used-high (a .store .now) (a .used) (a .used) P, P .few)
 
 loop-less : tie.Need-loop-less Inv-loop μ-loop
 loop-less c =
@@ -88,7 +88,7 @@ loop-again c =
     ∙ ap (λ (x : List ℕ). twoAt x 4) (lent-is (a .store .now) ((l .lo + l .hi) / 2)) in (
       omega arith,
       (omega arith, omega arith),
-      (λ p h g. let q = rising (a .store .now) (a .n) (a .used) P p ((l .lo + l .hi) / 2) h (omega arith) (omega arith) in omega (arith, c .if1 .taken)),
+      (λ p h g. let q = rising (a .store .now) (a .used) (a .used) P p ((l .lo + l .hi) / 2) h (omega arith) (omega arith) in omega (arith, c .if1 .taken)),
       l .inv .3,
     )
 
@@ -109,7 +109,7 @@ loop-again-2 c =
       omega arith,
       (omega arith, omega arith),
       l .inv .2,
-      (λ p h g. let q = rising (a .store .now) (a .n) (a .used) P ((l .lo + l .hi) / 2) p (omega arith) h g in omega (arith, c .if1 .left)),
+      (λ p h g. let q = rising (a .store .now) (a .used) (a .used) P ((l .lo + l .hi) / 2) p (omega arith) h g in omega (arith, c .if1 .left)),
     )
 
 returns : tie.Need-returns Inv-loop μ-loop

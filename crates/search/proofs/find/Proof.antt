@@ -16,13 +16,13 @@ use Rattle.search.proofs.find.Tie as tie
 abbrev Inv-changes : tie.InvT-changes
 Inv-changes store n used end i found₀ p a e b revision m j₀ found j =
     (found ≡ nowhere) × ((j ≤ m) × (m ≤ 32))
-    × (back (blocksOf n store) i end ≡ hitIn i revision (left (lent store p) 16 m j) (back (blocksOf n store) i p))
+    × (back (blocksOf used store) i end ≡ hitIn i revision (left (lent store p) 16 m j) (back (blocksOf used store) i p))
 
 abbrev μ-changes : tie.MeasureT-changes
 μ-changes store n used end i found₀ p a e b revision m j₀ found j = m - j
 
 abbrev Inv-search : tie.InvT-search
-Inv-search store n used end i found₀ p₀ found p = (found ≡ nowhere) × (p ≤ end) × (back (blocksOf n store) i end ≡ back (blocksOf n store) i p)
+Inv-search store n used end i found₀ p₀ found p = (found ≡ nowhere) × (p ≤ end) × (back (blocksOf used store) i end ≡ back (blocksOf used store) i p)
 
 abbrev μ-search : tie.MeasureT-search
 μ-search store n used end i found₀ p₀ found p = p
@@ -34,10 +34,10 @@ sub-p : tie.Need-sub-p Inv-changes μ-changes Inv-search μ-search
 sub-p c = search needs
 
 mul-a : tie.Need-mul-a Inv-changes μ-changes Inv-search μ-search
-mul-a c = search needs
+mul-a c = let k = c .before .before .before in let w = passed (k .args .store .now) (k .args .n) (k .args .used) (k .pre .0) .whole in search needs
 
 add-e : tie.Need-add-e Inv-changes μ-changes Inv-search μ-search
-add-e c = search needs
+add-e c = let k = c .before .before .before in let w = passed (k .args .store .now) (k .args .n) (k .args .used) (k .pre .0) .whole in search needs
 
 sub-b : tie.Need-sub-b Inv-changes μ-changes Inv-search μ-search
 sub-b c = search needs
@@ -46,14 +46,14 @@ part-b-start : tie.Need-part-b-start Inv-changes μ-changes Inv-search μ-search
 part-b-start c = search needs
 
 part-b-end : tie.Need-part-b-end Inv-changes μ-changes Inv-search μ-search
-part-b-end c = search needs
+part-b-end c = let k = c .before .before .before in let w = passed (k .args .store .now) (k .args .n) (k .args .used) (k .pre .0) .whole in search needs
 
 kind-requires : tie.Need-kind-requires Inv-changes μ-changes Inv-search μ-search
 kind-requires c κs =
     let a = c .before .before .before .before .args in
     let P = passed (a .store .now) (a .n) (a .used) (c .before .before .before .before .pre .0) in
     let l = c .before .before .search in
-    (part-size (a .store .now) (a .n) (l .p - 1) (P .whole) (omega arith))
+    (part-size (a .store .now) (a .used) (l .p - 1) (P .whole) (omega arith))
 
 search-less : tie.Need-search-less Inv-changes μ-changes Inv-search μ-search
 search-less c = search needs
@@ -63,7 +63,7 @@ search-again c =
     let a = c .before .before .before .before .before .before .args in
     let P = passed (a .store .now) (a .n) (a .used) (c .before .before .before .before .before .before .pre .0) in
     let l = c .before .before .before .before .search in
-    (l .inv .0, omega arith, l .inv .2 ∙ back-skip (a .n) (a .store .now) (a .i) (l .p) (omega arith) (omega arith) (λ q. c .if1 .taken (c .before .kind .ensures ∙ q)))
+    (l .inv .0, omega arith, l .inv .2 ∙ back-skip (a .used) (a .store .now) (a .i) (l .p) (omega arith) (omega arith) (λ q. c .if1 .taken (c .before .kind .ensures ∙ q)))
 
 two-at-requires : tie.Need-two-at-requires Inv-changes μ-changes Inv-search μ-search
 two-at-requires c κs = search needs
@@ -80,10 +80,10 @@ changes-holds c =
     let P = passed (a .store .now) (a .n) (a .used) (c .before .before .before .before .before .before .before .before .pre .0) in
     let l = c .before .before .before .before .before .before .search in
     let k = sym (c .before .before .before .kind .ensures) ∙ c .before .before .if1 .left in
-    let few = few-changes (a .n) (l .p - 1) (a .store .now) (P .laws) (omega arith) k in (
+    let few = few-changes (a .used) (l .p - 1) (a .store .now) (P .laws) (omega arith) k in (
       l .inv .0,
       (omega arith, omega (arith, few, c .two-at2 .ensures .0)),
-      l .inv .2 ∙ back-into (a .n) (a .store .now) (a .i) (l .p) (omega arith) (omega arith) (c .before .two-at .result) (c .two-at2 .result) k
+      l .inv .2 ∙ back-into (a .used) (a .store .now) (a .i) (l .p) (omega arith) (omega arith) (c .before .two-at .result) (c .two-at2 .result) k
           (c .before .two-at .ensures .0) (c .two-at2 .ensures .0),
     )
 
@@ -99,7 +99,7 @@ search-again-2 c =
       v .inv .0,
       omega arith,
       v .inv .2 ∙ hit-none (lent (a .store .now) (l .p - 1)) (a .i) (c .before .before .before .two-at .result)
-          (c .before .before .two-at2 .result) (v .j) (back (blocksOf (a .n) (a .store .now)) (a .i) (l .p - 1)) (omega arith),
+          (c .before .before .two-at2 .result) (v .j) (back (blocksOf (a .used) (a .store .now)) (a .i) (l .p - 1)) (omega arith),
     )
 
 mul-o : tie.Need-mul-o Inv-changes μ-changes Inv-search μ-search
@@ -113,7 +113,7 @@ shared-slice-read-if2 c =
     let a = c .before .before .before .before .before .before .before .before .before .before .before .args in
     let P = passed (a .store .now) (a .n) (a .used) (c .before .before .before .before .before .before .before .before .before .before .before .pre .0) in
     let l = c .before .before .before .before .before .before .before .before .before .search in
-    let z = (part-size (a .store .now) (a .n) (l .p - 1) (P .whole) (omega arith)) in omega arith
+    let z = (part-size (a .store .now) (a .used) (l .p - 1) (P .whole) (omega arith)) in omega arith
 
 cast-if2 : tie.Need-cast-if2 Inv-changes μ-changes Inv-search μ-search
 cast-if2 c = omega (arith, c .shared-slice-known2 .given (16 + 8 * c .before .before .changes .j))
@@ -143,14 +143,14 @@ changes-again c =
       (omega arith, v .inv .1 .1),
       v .inv .2
           ∙ hit-next (lent (a .store .now) (l .p - 1)) (a .i) (c .before .before .before .before .before .two-at .result)
-          (c .before .before .before .before .two-at2 .result) (v .j) (back (blocksOf (a .n) (a .store .now)) (a .i) (l .p - 1)) (omega arith) (c .if2 .left),
+          (c .before .before .before .before .two-at2 .result) (v .j) (back (blocksOf (a .used) (a .store .now)) (a .i) (l .p - 1)) (omega arith) (c .if2 .left),
     )
 
 returns : tie.Need-returns Inv-changes μ-changes Inv-search μ-search
 returns c =
     let a = c .before .before .before .args in
     let l = c .before .search in
-    l .inv .0 ∙ sym (l .inv .2 ∙ back-none (blocksOf (a .n) (a .store .now)) (a .i) (l .p) (omega arith))
+    l .inv .0 ∙ sym (l .inv .2 ∙ back-none (blocksOf (a .used) (a .store .now)) (a .i) (l .p) (omega arith))
 
 returns-2 : tie.Need-returns-2 Inv-changes μ-changes Inv-search μ-search
 returns-2 c =
@@ -159,7 +159,7 @@ returns-2 c =
     let l = c .before .before .before .before .before .before .before .before .before .before .before .search in
     let v = c .before .before .before .before .changes in
     sym (v .inv .2 ∙ hit-here (lent (a .store .now) (l .p - 1)) (a .i) (c .before .before .before .before .before .before .two-at .result)
-    (c .before .before .before .before .before .two-at2 .result) (v .j) (back (blocksOf (a .n) (a .store .now)) (a .i) (l .p - 1)) (c .two-at3 .result) (omega arith)
+    (c .before .before .before .before .before .two-at2 .result) (v .j) (back (blocksOf (a .used) (a .store .now)) (a .i) (l .p - 1)) (c .two-at3 .result) (omega arith)
     (c .before .if2 .taken) (c .two-at3 .ensures .0))
 
 pub find-spec : {M : Type 1} → statement M

@@ -1,10 +1,8 @@
 -- `search::look_up` meets its contract: what the search back from the bound finds is what the table and the history have.
 -- Assumes nothing.
 use mathlib.Core.Path.{_∙_}
-use native.Mathlib.Omega.{arith}
 use borrow.Author.Needs.{needs}
 use Rattle.search.proofs.Finding.{found-is}
-use Rattle.search.proofs.Revisions.{passed, used-high}
 use Rattle.search.proofs.look_up.Statement.{statement}
 use Rattle.search.proofs.look_up.Tie as tie
 
@@ -14,8 +12,7 @@ bound-requires c κs = search needs
 find-requires : tie.Need-find-requires
 find-requires c κs =
     let k = c .before .before in
-    let a = k .args in
-    (k .pre .0, omega (arith, c .bound .ensures .high, used-high (a .store .now) (a .n) (a .used) (passed (a .store .now) (a .n) (a .used) (k .pre .0))))
+    (k .pre .0, c .bound .ensures .high)
 
 returns : tie.Need-returns
 returns c =

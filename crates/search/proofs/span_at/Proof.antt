@@ -6,7 +6,7 @@ use native.Mathlib.Omega.{arith}
 use borrow.Author.Needs.{needs}
 use lib.ListN.{length}
 use Rattle.model.specs.Blocks.{bytesAt}
-use Rattle.model.specs.Store.{blockCount, storeBlocks}
+use Rattle.model.specs.Store.{blockCount, blocksOf}
 use Rattle.search.proofs.span_at.Statement.{statement}
 use Rattle.store.proofs.Blocks.{bytes-in}
 use Rattle.search.proofs.span_at.Tie as tie
@@ -38,7 +38,7 @@ returns c =
     let s = k .args .store .now in
     let p = k .args .p in
     let d : p * 512 + 16 ≡ 512 * p + 16 = omega arith in
-    let e : c .size .result ≡ length (bytesAt (storeBlocks s) p) = c .size .ensures .0 ∙ sym (ap length (bytes-in (blockCount s) p s (k .pre))) in
+    let e : c .size .result ≡ length (bytesAt (blocksOf (blockCount s) s) p) = c .size .ensures .0 ∙ sym (ap length (bytes-in (blockCount s) p s (k .pre))) in
     record { is = cc (d, e); inside = omega (arith, k .pre, c .size .ensures .1) }
 
 pub span-at-spec : {M : Type 1} → statement M

@@ -11,9 +11,9 @@ use Rattle.model.specs.Store.{blocksOf}
 use Rattle.shape.specs.Rows.{rowsOf}
 use Rattle.store.proofs.Blocks.{lent, part-size}
 use Rattle.store.proofs.Commits.{laid-grows}
-use Rattle.store.proofs.PassLaws.{kind-three, start-is, turn-blank, turn-commit, turn-content, turn-end, turn-label, turn-revision, turn-unlaid}
-use Rattle.store.proofs.pass.Statement.{statement}
+use Rattle.store.proofs.PassLaws.{kind-three, start-is, turn-commit, turn-content, turn-early, turn-end, turn-many, turn-revision, turn-unlaid}
 use Rattle.store.specs.Opened.{passed, passedAll}
+use Rattle.store.proofs.pass.Statement.{statement}
 use Rattle.store.proofs.pass.Tie as tie
 
 abbrev Inv-loop : tie.InvT-loop
@@ -55,50 +55,35 @@ kind-requires c κs =
     let P = c .before .before .before .before .before .pre in
     (part-size (a .store .now) (a .n) (l .at + l .k) (P .whole) (omega arith))
 
-finish-requires : tie.Need-finish-requires Inv-loop μ-loop
-finish-requires c κs = let P = c .before .before .before .before .before .before .before .pre in record { whole = P .whole; within = omega arith }
-
 same-length : tie.Need-same-length Inv-loop μ-loop
 same-length c = search needs
 
 returns : tie.Need-returns Inv-loop μ-loop
 returns c =
-    let a = c .before .before .before .before .before .before .before .before .args in
+    let a = c .before .before .before .before .before .before .before .args in
     let look = bytesAt (blocksOf (a .n) (a .store .now)) in
-    let l = c .before .before .before .before .before .loop in
-    c .finish .ensures ∙ sym (sym (l .inv .3)
-    ∙ turn-blank look (a .n) (a .store .now) (l .at) (l .k) (l .last) (l .tab) (omega arith) (sym (c .before .before .kind .ensures) ∙ c .before .if1 .taken))
+    let l = c .before .before .before .before .loop in
+    sym (sym (l .inv .3) ∙ turn-early look (a .n) (a .store .now) (l .at) (l .k) (l .last) (l .tab) (omega arith) (omega (arith, c .before .kind .ensures, c .if1 .taken)))
+
+two-at-requires : tie.Need-two-at-requires Inv-loop μ-loop
+two-at-requires c κs = search needs
+
+cast-if2 : tie.Need-cast-if2 Inv-loop μ-loop
+cast-if2 c = search needs
+
+add-if2 : tie.Need-add-if2 Inv-loop μ-loop
+add-if2 c = search needs
 
 same-length-2 : tie.Need-same-length-2 Inv-loop μ-loop
 same-length-2 c = search needs
 
 returns-2 : tie.Need-returns-2 Inv-loop μ-loop
 returns-2 c =
-    let a = c .before .before .before .before .before .before .before .before .args in
+    let a = c .before .before .before .before .before .before .before .before .before .args in
     let look = bytesAt (blocksOf (a .n) (a .store .now)) in
-    let l = c .before .before .before .before .before .loop in
-    sym (sym (l .inv .3) ∙ turn-label look (a .n) (a .store .now) (l .at) (l .k) (l .last) (l .tab) (omega arith) (sym (c .before .before .kind .ensures) ∙ c .if2 .taken))
-
-two-at-requires : tie.Need-two-at-requires Inv-loop μ-loop
-two-at-requires c κs = search needs
-
-cast-if3 : tie.Need-cast-if3 Inv-loop μ-loop
-cast-if3 c = search needs
-
-add-if3 : tie.Need-add-if3 Inv-loop μ-loop
-add-if3 c = search needs
-
-same-length-3 : tie.Need-same-length-3 Inv-loop μ-loop
-same-length-3 c = search needs
-
-returns-3 : tie.Need-returns-3 Inv-loop μ-loop
-returns-3 c =
-    let a = c .before .before .before .before .before .before .before .before .before .before .args in
-    let look = bytesAt (blocksOf (a .n) (a .store .now)) in
-    let l = c .before .before .before .before .before .before .before .loop in
+    let l = c .before .before .before .before .before .before .loop in
     sym (sym (l .inv .3) ∙ turn-revision look (a .n) (a .store .now) (l .at) (l .k) (l .last) (l .tab) (omega arith)
-    (λ e. c .before .before .before .if1 .left (c .before .before .before .before .kind .ensures ∙ e))
-    (λ e. c .before .before .if2 .left (c .before .before .before .before .kind .ensures ∙ e)) (λ e. c .if3 .taken (c .before .two-at .ensures .0 ∙ e)))
+    (omega (arith, c .before .before .before .kind .ensures, c .before .before .if1 .left)) (λ e. c .if2 .taken (c .before .two-at .ensures .0 ∙ e)))
 
 add-k : tie.Need-add-k Inv-loop μ-loop
 add-k c = search needs
@@ -108,43 +93,39 @@ loop-less c = search needs
 
 loop-again : tie.Need-loop-again Inv-loop μ-loop
 loop-again c =
-    let a = c .before .before .before .before .before .before .before .before .before .before .before .args in
+    let a = c .before .before .before .before .before .before .before .before .before .before .args in
     let look = bytesAt (blocksOf (a .n) (a .store .now)) in
-    let l = c .before .before .before .before .before .before .before .before .loop in (
+    let l = c .before .before .before .before .before .before .before .loop in (
       omega arith,
       omega arith,
       l .inv .2,
       sym
           (turn-content look (a .n) (a .store .now) (l .at) (l .k) (l .last) (l .tab) (omega arith)
-          (sym (c .before .before .before .before .before .kind .ensures) ∙ c .if4 .taken) (sym (c .before .before .two-at .ensures .0) ∙ c .before .if3 .left))
+          (sym (c .before .before .before .before .kind .ensures) ∙ c .if3 .taken) (sym (c .before .before .two-at .ensures .0) ∙ c .before .if2 .left))
           ∙ l .inv .3,
     )
 
 laid-at-requires : tie.Need-laid-at-requires Inv-loop μ-loop
 laid-at-requires c κs =
-    let a = c .before .before .before .before .before .before .before .before .before .before .before .before .args in
-    let l = c .before .before .before .before .before .before .before .before .before .loop in
-    let P = c .before .before .before .before .before .before .before .before .before .before .before .before .pre in (
+    let a = c .before .before .before .before .before .before .before .before .before .before .before .args in
+    let l = c .before .before .before .before .before .before .before .before .loop in
+    let P = c .before .before .before .before .before .before .before .before .before .before .before .pre in (
       record { whole = P .whole; few = P .few; room = omega (arith, P .room, l .inv .2); within = omega arith },
       (part-size (a .store .now) (a .n) (l .at + l .k) (P .whole) (omega arith)),
     )
 
-same-length-4 : tie.Need-same-length-4 Inv-loop μ-loop
-same-length-4 c = search needs
+same-length-3 : tie.Need-same-length-3 Inv-loop μ-loop
+same-length-3 c = search needs
 
-returns-4 : tie.Need-returns-4 Inv-loop μ-loop
-returns-4 c =
-    let a = c .before .before .before .before .before .before .before .before .before .before .before .before .before .before .args in
+returns-3 : tie.Need-returns-3 Inv-loop μ-loop
+returns-3 c =
+    let a = c .before .before .before .before .before .before .before .before .before .before .before .before .before .args in
     let look = bytesAt (blocksOf (a .n) (a .store .now)) in
-    let l = c .before .before .before .before .before .before .before .before .before .before .before .loop in
+    let l = c .before .before .before .before .before .before .before .before .before .before .loop in
     sym (sym (l .inv .3) ∙ turn-unlaid look (a .n) (a .store .now) (l .at) (l .k) (l .last) (l .tab) (omega arith)
-    (kind-three (lent (a .store .now) (l .at + l .k))
-    (λ e. c .before .before .before .before .before .before .before .if1 .left
-    (c .before .before .before .before .before .before .before .before .kind .ensures ∙ e))
-    (λ e. c .before .before .before .before .before .before .if2 .left (c .before .before .before .before .before .before .before .before .kind .ensures ∙ e))
-    (λ e. c .before .before .before .if4 .left (c .before .before .before .before .before .before .before .before .kind .ensures ∙ e)))
-    (sym (c .before .before .before .before .before .two-at .ensures .0) ∙ c .before .before .before .before .if3 .left)
-    (sym (c .before .laid-at .ensures) ∙ not-true _ (c .if5 .taken)))
+    (kind-three (lent (a .store .now) (l .at + l .k)) (omega (arith, c .before .before .before .before .before .before .before .kind .ensures, c .before .before .before .before .before .before .if1 .left)) (λ e. c .before .before .before .if3 .left (c .before .before .before .before .before .before .before .kind .ensures ∙ e)))
+    (sym (c .before .before .before .before .before .two-at .ensures .0) ∙ c .before .before .before .before .if2 .left)
+    (sym (c .before .laid-at .ensures) ∙ not-true _ (c .if4 .taken)))
 
 two-at-requires-2 : tie.Need-two-at-requires-2 Inv-loop μ-loop
 two-at-requires-2 c κs = search needs
@@ -157,14 +138,14 @@ add-last c = search needs
 
 grow-requires : tie.Need-grow-requires Inv-loop μ-loop
 grow-requires c κs =
-    let a = c .before .before .before .before .before .before .before .before .before .before .before .before .before .before .before .before .args in
+    let a = c .before .before .before .before .before .before .before .before .before .before .before .before .before .before .before .args in
     let look = bytesAt (blocksOf (a .n) (a .store .now)) in
-    let l = c .before .before .before .before .before .before .before .before .before .before .before .before .before .loop in
-    let P = c .before .before .before .before .before .before .before .before .before .before .before .before .before .before .before .before .pre in
+    let l = c .before .before .before .before .before .before .before .before .before .before .before .before .loop in
+    let P = c .before .before .before .before .before .before .before .before .before .before .before .before .before .before .before .pre in
     laid-grows look (l .at) (l .k) (rowsOf (l .last + 1) (l .tab)) (getD (lent (a .store .now) (l .at + l .k)) 6 0) (l .tab) (lent (a .store .now) (l .at + l .k))
     (l .last + 1) (c .before .two-at2 .result)
     (omega arith) (omega (arith, P .room, l .inv .2)) (part-size (a .store .now) (a .n) (l .at + l .k) (P .whole) (omega arith)) (c .before .two-at2 .ensures .0)
-    (sym (c .before .before .before .laid-at .ensures) ∙ not-false _ (c .before .before .if5 .left))
+    (sym (c .before .before .before .laid-at .ensures) ∙ not-false _ (c .before .before .if4 .left))
 
 add-at : tie.Need-add-at Inv-loop μ-loop
 add-at c = search needs
@@ -174,30 +155,29 @@ loop-less-2 c = search needs
 
 loop-again-2 : tie.Need-loop-again-2 Inv-loop μ-loop
 loop-again-2 c =
-    let a = c .before .before .before .before .before .before .before .before .before .before .before .before .before .before .before .before .before .before .before .args in
+    let a = c .before .before .before .before .before .before .before .before .before .before .before .before .before .before .before .before .before .before .args in
     let look = bytesAt (blocksOf (a .n) (a .store .now)) in
-    let l = c .before .before .before .before .before .before .before .before .before .before .before .before .before .before .before .before .loop in
+    let l = c .before .before .before .before .before .before .before .before .before .before .before .before .before .before .before .loop in
     let g = c .before .before .grow in (
       omega arith,
       omega arith,
       search needs,
       sym (turn-commit look (a .n) (a .store .now) (l .at) (l .k) (l .last) (l .tab) (omega arith)
-          (kind-three (lent (a .store .now) (l .at + l .k))
-          (λ e. c .before .before .before .before .before .before .before .before .before .before .before .before .if1 .left
-          (c .before .before .before .before .before .before .before .before .before .before .before .before .before .kind .ensures ∙ e))
-          (λ e. c .before .before .before .before .before .before .before .before .before .before .before .if2 .left
-          (c .before .before .before .before .before .before .before .before .before .before .before .before .before .kind .ensures ∙ e))
-          (λ e. c .before .before .before .before .before .before .before .before .if4 .left
-          (c .before .before .before .before .before .before .before .before .before .before .before .before .before .kind .ensures ∙ e)))
-          (sym (c .before .before .before .before .before .before .before .before .before .before .two-at .ensures .0)
-          ∙ c .before .before .before .before .before .before .before .before .before .if3 .left) (c .before .before .before .before .two-at2 .result) (g .last .0)
-          (c .before .before .before .before .two-at2 .ensures .0)
-          (sym (c .before .before .before .before .before .before .laid-at .ensures) ∙ not-false _ (c .before .before .before .before .before .if5 .left)) (g .ensures))
+          (kind-three (lent (a .store .now) (l .at + l .k)) (omega (arith, c .before .before .before .before .before .before .before .before .before .before .before .before .kind .ensures, c .before .before .before .before .before .before .before .before .before .before .before .if1 .left)) (λ e. c .before .before .before .before .before .before .before .before .if3 .left (c .before .before .before .before .before .before .before .before .before .before .before .before .kind .ensures ∙ e)))
+          (sym (c .before .before .before .before .before .before .before .before .before .before .two-at .ensures .0) ∙ c .before .before .before .before .before .before .before .before .before .if2 .left) (c .before .before .before .before .two-at2 .result) (g .last .0) (c .before .before .before .before .two-at2 .ensures .0)
+          (sym (c .before .before .before .before .before .before .laid-at .ensures) ∙ not-false _ (c .before .before .before .before .before .if4 .left)) (g .ensures))
           ∙ l .inv .3,
     )
 
-finish-requires-2 : tie.Need-finish-requires-2 Inv-loop μ-loop
-finish-requires-2 c κs = let P = c .before .before .before .before .pre in record { whole = P .whole; within = omega arith }
+same-length-4 : tie.Need-same-length-4 Inv-loop μ-loop
+same-length-4 c = search needs
+
+returns-4 : tie.Need-returns-4 Inv-loop μ-loop
+returns-4 c =
+    let a = c .before .before .before .before .before .args in
+    let look = bytesAt (blocksOf (a .n) (a .store .now)) in
+    let l = c .before .before .loop in
+    sym (sym (l .inv .3) ∙ turn-many look (a .n) (a .store .now) (l .at) (l .k) (l .last) (l .tab) (omega arith) (c .if5 .taken))
 
 same-length-5 : tie.Need-same-length-5 Inv-loop μ-loop
 same-length-5 c = search needs
@@ -207,7 +187,7 @@ returns-5 c =
     let a = c .before .before .before .before .before .args in
     let look = bytesAt (blocksOf (a .n) (a .store .now)) in
     let l = c .before .before .loop in
-    c .finish2 .ensures ∙ sym (sym (l .inv .3) ∙ turn-end look (a .n) (a .store .now) (l .at) (l .k) (l .last) (l .tab) (omega arith))
+    sym (sym (l .inv .3) ∙ turn-end look (a .n) (a .store .now) (l .at) (l .k) (l .last) (l .tab) (omega arith) (omega (arith, c .if5 .left)))
 
 pub pass-spec : {M : Type 1} → statement M
 pass-spec =
@@ -224,22 +204,19 @@ pass-spec =
     part-b-start
     part-b-end
     kind-requires
-    finish-requires
     same-length
     returns
+    two-at-requires
+    cast-if2
+    add-if2
     same-length-2
     returns-2
-    two-at-requires
-    cast-if3
-    add-if3
-    same-length-3
-    returns-3
     add-k
     loop-less
     loop-again
     laid-at-requires
-    same-length-4
-    returns-4
+    same-length-3
+    returns-3
     two-at-requires-2
     cast-m
     add-last
@@ -247,6 +224,7 @@ pass-spec =
     add-at
     loop-less-2
     loop-again-2
-    finish-requires-2
+    same-length-4
+    returns-4
     same-length-5
     returns-5)

@@ -1,12 +1,12 @@
 -- `updates::take_block` meets its contract: the block's bytes stand in the store.
 -- Assumes nothing.
 use borrow.Author.Needs.{needs}
-use Rattle.updates.proofs.Entering.{take-leaves, take-put}
+use Rattle.updates.proofs.Entering.{block-there, take-leaves, take-put}
 use Rattle.updates.proofs.take_block.Statement.{statement}
 use Rattle.updates.proofs.take_block.Tie as tie
 
 span-at-requires : tie.Need-span-at-requires
-span-at-requires c κs = search needs
+span-at-requires c κs = block-there (c .before .before .pre)
 
 add-b : tie.Need-add-b
 add-b c = search needs
