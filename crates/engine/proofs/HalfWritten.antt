@@ -1,18 +1,18 @@
 -- W5 of document 02 for the code: "Every call but commit works meanwhile, as if the tail were zero blocks. A new call on the store alone clears the tail, writing zero blocks from its highest
 -- block down; without a tail it changes nothing. New numbers: 14, commit on a store that has a tail, checked right after 3."
--- Of the calls nothing is known but their functions' own contracts: `Made` is that of Demand3, `Looked` that of Demand1. That a clearing stopped after n blocks has cleared the highest n is
--- the contract of `tails::clear`.
+-- Of the calls nothing is known but their functions' own contracts: `Made` is that of Demand3, `Looked` that of Demand1.
 -- Assumes nothing.
-use Prim.Native.Nat.{ℕ}
+use Prim.Native.Nat.{_+_, _-_, ℕ}
+use mathlib.Core.Bool.{Bool}
 use mathlib.Core.Option.{none}
-use mathlib.Core.Path.{_∙_, _≡_, ap, sym}
+use mathlib.Core.Path.{_∙_, _≡_, ap, ap₂, sym}
 use denote.Ref.{RefT, now}
 use Rattle.model.specs.Calls.{Created, Out, out, readPlace, showPlace, storeConditions}
 use Rattle.model.specs.HalfWritten.{Bare, Meanwhile}
 use Rattle.model.specs.History.{Bytes}
 use Rattle.model.specs.Machine.{Answer, Call, Clears, Commits, done, refused}
 use Rattle.model.specs.Refusals.{firstOf}
-use Rattle.model.specs.Store.{bareOf, tailOf}
+use Rattle.model.specs.Store.{bareOf, blankFrom, tailOf, usedOf}
 use Rattle.model.specs.Types.{answerOf, placeOf}
 use Rattle.model.specs.declared.Answer.{Answer as TheAnswer}
 use Rattle.model.specs.declared.Place.{Place}
@@ -20,6 +20,9 @@ use Rattle.laws.proofs.HalfWritten.{half-written}
 use contract.Lifetimes.{Lfts}
 use Rattle.engine.proofs.Demand1.{CodeDemand1, Looked, code-demand-one, logs, looked-is, reads, shows, statuses}
 use Rattle.engine.proofs.Demand3.{CodeDemand3, Made, code-demand-three, made-is}
+use Rattle.tails.proofs.clear.Met as tail-met
+use Rattle.tails.proofs.clear.Reads as tail-reads
+use Rattle.tails.proofs.clear.Statement as tail-statement
 use Rattle.engine.proofs.read_place.Reads as read-reads
 use Rattle.engine.proofs.show_place.Reads as show-reads
 
@@ -45,11 +48,15 @@ pub record OnTail (store : Bytes) : Type 0 where
   -- clearing is done, and gives exactly the bare store; without a tail that is the store as it was
   pub clears : {copy store′ copy′ : Bytes} {r : TheAnswer} → Made store copy Clears r store′ copy′ → (answerOf r ≡ done) × (store′ ≡ bareOf store)
   pub unchanged : tailOf store ≡ 0 → bareOf store ≡ store
+  -- "from its highest block down": the function that clears the tail, stopped after n blocks, has cleared the highest n of them and nothing else
+  pub downwards : (κs : Lfts 1) (x x′ : RefT Bytes) (used count n used′ count′ n′ : ℕ) (r : Bool) → now x ≡ store → used ≡ usedOf store → count ≡ tailOf store
+      → tail-reads.Learnt κs (x, (used, (count, (n, tt)))) r (x′, (used′, (count′, (n′, tt)))) → now x′ ≡ blankFrom (usedOf store + (tailOf store - n)) store
 
 pub record CodeHalfWritten : Type 2 where
   -- the functions meet their contracts, of which `Made` and `Looked` speak
   pub calls-meet : CodeDemand3
   pub looks-meet : CodeDemand1
+  pub clear-meets : (M : Type 1) → tail-statement.statement M
   pub accepted : (store : Bytes) → firstOf (storeConditions store) ≡ none → OnTail store
 
 -- THE PROOF
@@ -83,7 +90,9 @@ on-tail store e = record {
       let w = made-is k in
       (ap (λ (o : Out). o .says) w ∙ ap (λ (o : Created). o .says) c, ap (λ (o : Out). o .store) w ∙ ap (λ (o : Created). o .buffer) c);
   unchanged = half-written store store e .unchanged;
+  downwards = λ κs x x′ used count n used′ count′ n′ r s u t l.
+      l .1 ∙ ap (blankFrom (used + (count - n))) s ∙ ap₂ (λ (p q : ℕ). blankFrom (p + (q - n)) store) u t;
 }
 
 pub code-half-written : CodeHalfWritten
-code-half-written = record { calls-meet = code-demand-three; looks-meet = code-demand-one; accepted = on-tail }
+code-half-written = record { calls-meet = code-demand-three; looks-meet = code-demand-one; clear-meets = λ M. tail-met.met; accepted = on-tail }
