@@ -2,7 +2,8 @@
  *
  * Every call works on buffers that the caller lends: a store of 2 to 4,096 blocks of 512 bytes, and a working copy of 16,896
  * bytes. A call checks all that it is handed, finishes on every input, and either does its work or answers a refusal and
- * leaves every buffer unchanged. A call needs about 272 KiB of stack.
+ * leaves every buffer unchanged; sheets_commit_cut and sheets_clear_cut may stop within their work and answer that. A call needs
+ * about 272 KiB of stack.
  */
 #ifndef SHEETSTORE_H
 #define SHEETSTORE_H
@@ -43,6 +44,11 @@ typedef struct {
     uint32_t value;
 } sheets_answer;
 
+/* refused: refusal, 0, 0; stopped 1: it stopped after n writes, the other two are 0; else 0, 0, value as in sheets_answer */
+typedef struct {
+    uint32_t refusal, stopped, value;
+} sheets_cut_answer;
+
 /* buffer 0: store, 1: working copy; refused, an empty part at the store's start; revision: the last commit that named the sheet,
  * 0 for a part of the working copy and refused */
 typedef struct {
@@ -76,13 +82,25 @@ sheets_answer sheets_delete(const uint8_t *store, size_t store_len, uint8_t *cop
 sheets_answer sheets_copy(const uint8_t *store, size_t store_len, uint8_t *copy, size_t copy_len, uint32_t from, uint32_t to);
 sheets_answer sheets_move(const uint8_t *store, size_t store_len, uint8_t *copy, size_t copy_len, uint32_t from, uint32_t to);
 
-/* A commit leaves the blocks in use as they are. Two stores of one size that began fresh and have no tail are equal byte by byte
- * exactly if their histories are the same. */
+/* A commit leaves the blocks in use as they are. It writes its content blocks in rising order, then its commit block. Two stores
+ * of one size that began fresh and have no tail are equal byte by byte exactly if their histories are the same. */
 sheets_answer sheets_commit(uint8_t *store, size_t store_len, uint8_t *copy, size_t copy_len, uint32_t stamp, uint32_t mask);
 /* Where contact is lost within a commit, the store ends in a tail: up to 32 content blocks of the next revision and at most one
  * block with a wrong check. Every call but commit works then, as if the tail were zero blocks; commit is refused with 14. Clear
- * writes zero blocks there, from the highest block down; without a tail it changes nothing. Only 1, 2 and 3 refuse it. */
+ * writes zero blocks there, from the highest block down; without a tail it changes nothing. Only 1, 2 and 3 refuse it.
+ *
+ * Wherever the power fails within a commit or a clear, and the blocks written before are new, the block being written is old, new
+ * or has a wrong check, and those due later are old, the store found is accepted. Its history is the one before or the one with
+ * the whole commit, the latter exactly if the commit block is new. The working copy is outside of this. */
 sheets_answer sheets_clear(uint8_t *store, size_t store_len);
+/* Commit and clear that stop after n block writes, to try what a cut leaves. They are refused as the usual calls are, whatever n
+ * is. A commit of k content blocks has k + 1 writes, a clear one for each block of the tail: without a tail none, and it is done
+ * for every n. With n below the number of writes the first n are made, the working copy is untouched, and the answer is that it
+ * stopped; with n equal or above, the call is the usual one. A commit that stopped after one write or more leaves a tail, so that
+ * the next is refused with 14 until the store is cleared; with n = 0 nothing is written. */
+sheets_cut_answer sheets_commit_cut(uint8_t *store, size_t store_len, uint8_t *copy, size_t copy_len, uint32_t stamp, uint32_t mask,
+                                    uint32_t n);
+sheets_cut_answer sheets_clear_cut(uint8_t *store, size_t store_len, uint32_t n);
 /* An entry whose own bytes are the ones that its sheet has at the revision agrees with it: not a conflict (12), and unmodified
  * from then on. */
 sheets_answer sheets_update(const uint8_t *store, size_t store_len, uint8_t *copy, size_t copy_len, uint32_t mask, uint32_t revision);
@@ -98,8 +116,8 @@ sheets_log_entry sheets_log(const uint8_t *store, size_t store_len, uint32_t rev
 /* A list of calls. The script has a record of 512 bytes for each call, copies are the working copies of seats 1 to 4 side by
  * side, 67,584 bytes, and answers has room for a record of 512 bytes for each call. The five buffers are checked once. Refused
  * (1 to 6 as for any call, the copies in order; 7 for a copy of another seat, a bad record or fewer answers than calls), nothing
- * is changed. A script may begin on a store with a tail: its commits are refused with 14 until one of its calls is a clear, kind
- * 13. The records are laid out in docs/LAYOUT.md. */
+ * is changed. A script may begin on a store with a tail, and a cut commit (kind 14) may leave one: commits are refused with 14
+ * until one of its calls clears it, kind 13, or 15 with n enough. The records are laid out in docs/LAYOUT.md. */
 sheets_answer sheets_replay(const uint8_t *script, size_t script_len, uint8_t *store, size_t store_len, uint8_t *copies,
                             size_t copies_len, uint8_t *answers, size_t answers_len);
 

@@ -3,10 +3,11 @@
 
 calls.py [--seed N] [--lists N] [--only K]
 
-For each list a fresh store of 2 to 4,096 blocks and four fresh copies; answers, every byte of every buffer, and reads are compared. In half of the lists the store
-is found with a tail now and then, as a commit that stopped half way leaves it. Then damage, with and without a tail: bytes of the buffers changed, resealed or not,
-blocks exchanged, lengths wrong; the first refusal that holds by tests/model/accept.py must come and nothing may change, and where the buffers are accepted all the
-same, the call must do as the model does. How often the calls met what W2, W3 and W5 of document 02 are about is printed, and that some of it never came is a failure.
+For each list a fresh store of 2 to 4,096 blocks and four fresh copies; answers, every byte of every buffer, and reads are compared. Cut commits and clearings are
+among the calls, and in half of the lists the store is found with a tail now and then, as a power cut leaves it. Then damage, with and without a tail: bytes of the
+buffers changed, resealed or not, blocks exchanged, lengths wrong; the first refusal that holds by tests/model/accept.py must come and nothing may change, and where
+the buffers are accepted all the same, the call must do as the model does. How often the calls met what W2, W3, W5 and W6 of document 02 are about is printed, and
+that some of it never came is a failure.
 At the first list that fails its seed and number are printed: `--seed N --only K` runs that list alone.
 """
 import pathlib, random, sys
@@ -16,8 +17,9 @@ sys.path.insert(0, str(pathlib.Path(__file__).resolve().parent / 'model'))
 import accept, layout, lists, sheets
 from engine import Engine
 
-CHANGING = ('add', 'edit', 'delete', 'copy', 'move', 'commit', 'update', 'revert')
-STORE_ONLY = ('read', 'log', 'clear')
+CHANGING = ('add', 'edit', 'delete', 'copy', 'move', 'commit', 'commit_cut', 'update', 'revert')
+STORE_ONLY = ('read', 'log', 'clear', 'clear_cut')
+COMMITS = ('commit', 'commit_cut')
 ALL = 0xffffffff
 calls = failed = 0
 
@@ -33,12 +35,29 @@ def played(model, store, some):
     """The model's answers to these calls, and the store after them. The store has the model's history, in any order."""
     answers = []
     for c in some:
+        commit = model.asked(*c[1:4])[1] if c[0] in COMMITS else None
         answers.append(lists.made(model, c))
-        if answers[-1][0] == 'revision':
-            store = layout.appended(store, model.history[-1])
-        elif c[0] == 'clear':
-            store = layout.cleared(store)
+        if c[0] in ('clear', 'clear_cut'):
+            store = layout.cleared(store, *c[2:])
+        elif commit:
+            store = layout.appended(store, commit, *c[4:])
     return answers, store
+
+
+# ---- the power
+
+def after(model, store, call, n):
+    """The store after n block writes of a commit or a clearing that the model would do."""
+    return layout.cleared(store, n) if call[0] == 'clear' else layout.appended(store, model.asked(*call[1:])[1], n)
+
+
+def due(model, call, n):
+    """The block that its write number n, counted from 0, is for."""
+    return model.used + model.tail - 1 - n if call[0] == 'clear' else model.used + n
+
+
+def with_block(store, number, block):
+    return store[:number * 512] + block + store[number * 512 + 512:]
 
 
 # ---- tails
@@ -103,7 +122,26 @@ class Desk:
         """The store is found with these blocks behind its history."""
         self.laid_out = layout.tailed(self.laid_out, tail)
         self.store[:] = self.laid_out
-        self.model.tail = len(tail)
+        lists.found(self.model, len(tail))
+
+    def power(self, call, n, how, wrong):
+        """The power fails while a commit or a clearing that would be done writes its block number n, which is then old, new, or this block with a wrong check. What
+        is written up to there, and the new block, is what the engine's cut calls write."""
+        global calls
+        (name, seat, *args), stores = call, []
+        for some in (n, n + 1):
+            calls += 1
+            store = bytearray(self.store)
+            self.engine.call(f'{name}_cut', store, bytearray(self.copies[seat]), *args, some)
+            stores.append(bytes(store))
+            if store != after(self.model, self.laid_out, call, some):
+                fail(f'{call}, cut after {some} writes, leaves another store')
+        before, new = stores
+        self.laid_out = {'old': before, 'new': new, 'junk': with_block(before, due(self.model, call, n), wrong)}[how]
+        self.store[:] = self.laid_out
+        self.model.power(call, n, how)
+        lists.since.pop(self.model, None)
+        return ('cut',)
 
     def call(self, name, seat, *args):
         global calls
@@ -119,7 +157,7 @@ class Desk:
         elif wanted[0] == 'revision' and layout.history_of(self.laid_out) != (self.model.history, self.model.used, 0):
             fail(f'{what} leaves another history')
         for k, copy in self.copies.items():
-            changes = k == seat and name in CHANGING and wanted[0] != 'no'
+            changes = k == seat and name in CHANGING and wanted[0] not in ('no', 'stopped')
             if copy != (layout.copy_bytes(k, self.model.seats[k]) if changes else before[k]):
                 fail(f'{what} leaves another copy of seat {k}')
         return wanted
@@ -220,9 +258,10 @@ def damaged(engine, rng, desk):
         store, copy = bytearray(desk.store), bytearray(desk.copies[seat])
         if rng.random() < 0.4:
             store[:] = layout.tailed(store, random_tail(rng, desk.model))
-        for _ in range(rng.choice([1, 1, 2])):
+        for _ in range(rng.choice([0, 1, 1, 1, 2])):
             damage(rng, store, copy, desk.model.last())
-        name, _, *args = lists.random_call(rng, desk.model) if rng.random() < 0.7 else ('commit', seat, rng.getrandbits(32), ALL)
+        commit, n = ('commit', seat, rng.getrandbits(32), ALL), rng.choice([0, 1, 2, 33])
+        name, _, *args = lists.random_call(rng, desk.model) if rng.random() < 0.6 else rng.choice([commit, ('commit_cut', *commit[1:], n), ('clear_cut', seat, n)])
         on_buffers(engine, f'{name} {args} on damaged buffers', name, args, store, copy)
 
 
@@ -231,9 +270,12 @@ def on_buffers(engine, what, name, args, store, copy):
     global calls
     calls += 1
     before = bytes(store), bytes(copy)
-    number = accept.refusal(store, None if name in STORE_ONLY else copy, name == 'commit')
+    number = accept.refusal(store, None if name in STORE_ONLY else copy, name in COMMITS)
     if number == 14:
         lists.seen[f'14 before {accept.refusal(store, copy)}'] += 1
+    if number and name in ('commit_cut', 'clear_cut'):
+        lists.seen[f'{name} gives {number}'] += 1
+        lists.seen[f'{name} refused at 0'] += args[-1] == 0
     got = engine.call(name, store, copy, *args)
     if number:
         if got != ('no', number):
@@ -254,16 +296,17 @@ def accepted(what, name, args, got, before, store, copy):
         seat = before[1][1]
         model.seats[seat] = layout.entries_of(before[1])
     [wanted], wanted_store = played(model, before[0], [(name, seat, *args)])
+    lists.seen[f'{name} stopped'] += wanted == ('stopped',)
     if got != wanted:
         fail(f'{what}: {got}, not {wanted}')
     if store != wanted_store:
         fail(f'{what} leaves another store')
-    if copy != (layout.copy_bytes(seat, model.seats[seat]) if name in CHANGING and wanted[0] != 'no' else before[1]):
+    if copy != (layout.copy_bytes(seat, model.seats[seat]) if name in CHANGING and wanted[0] not in ('no', 'stopped') else before[1]):
         fail(f'{what} leaves another copy')
 
 
 def main():
-    given = lists.options(__doc__, 60)
+    given = lists.options(__doc__, 80)
     engine = Engine()
     for n in given.numbers:
         rng = random.Random(f'{given.seed} {n}')

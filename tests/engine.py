@@ -1,6 +1,7 @@
 """The engine through its C library, for tests: builds it and wraps each call. Buffers are bytearrays that the calls change in place.
 
-Answers are those of tests/model: ('no', number), ('done',), ('revision', R), ('bytes', bytes, number or None), ('status', 0 to 8, number), ('log', ..).
+Answers are those of tests/model: ('no', number), ('done',), ('revision', R), ('stopped',), ('bytes', bytes, number or None), ('status', 0 to 8, number),
+('log', ..).
 """
 import ctypes, os, pathlib, subprocess
 
@@ -10,6 +11,10 @@ u32, size_t = ctypes.c_uint32, ctypes.c_size_t
 
 class Answer(ctypes.Structure):
     _fields_ = [('refusal', u32), ('value', u32)]
+
+
+class CutAnswer(ctypes.Structure):
+    _fields_ = [('refusal', u32), ('stopped', u32), ('value', u32)]
 
 
 class Place(ctypes.Structure):
@@ -24,7 +29,7 @@ class LogEntry(ctypes.Structure):
     _fields_ = [(n, u32) for n in ('refusal', 'seat', 'stamp', 'changes', 'action', 'source_sheet', 'source_revision')]
 
 
-RESULTS = dict(read=Place, show=Place, status=Standing, log=LogEntry)  # of the other calls Answer
+RESULTS = dict(read=Place, show=Place, status=Standing, log=LogEntry, commit_cut=CutAnswer, clear_cut=CutAnswer)  # of the other calls Answer
 
 
 def build():
@@ -64,7 +69,10 @@ class Engine:
         r = self._call(name, *args)
         if r.refusal:
             return ('no', r.refusal)
-        if name == 'commit':
+        if name in ('commit_cut', 'clear_cut') and r.stopped:
+            assert (r.stopped, r.value) == (1, 0)
+            return ('stopped',)
+        if name in ('commit', 'commit_cut'):
             return ('revision', r.value)
         assert r.value == 0
         return ('done',)
@@ -111,12 +119,15 @@ class Engine:
     def clear(self, store):
         return self._answer('clear', store)
 
+    def clear_cut(self, store, n):
+        return self._answer('clear_cut', store, n)
+
     def replay(self, script, store, copies, answers):
         return self._answer('replay', script, store, copies, answers)
 
     def call(self, name, store, copy, *args):
         """A call as the model names it, on the two buffers."""
-        if name in ('read', 'log', 'clear'):
+        if name in ('read', 'log', 'clear', 'clear_cut'):
             return getattr(self, name)(store, *args)
         if name in ('show', 'status'):
             return getattr(self, name)(store, copy, *args)

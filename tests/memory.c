@@ -3,9 +3,10 @@
  *     memory SEED CALLS heap     pieces from malloc, for valgrind and AddressSanitizer to watch
  *     memory SEED CALLS pages    pieces that end, or start, at a page that cannot be touched; those lent as const lie in pages that cannot be written
  *
- * Now and then the store is found with a tail (W5). A refused call must leave its buffers as they were and carry no revision, a part of the store must carry one,
- * and a part of a copy none; a commit that is done found no tail, and a clear leaves the history and zeros. Exits 1, with the seed and the call's number, if that
- * is not so. A touch of a byte outside a piece ends the program.
+ * Now and then the store is found with a tail (W5), or a cut call leaves one (W6). A refused call must leave its buffers as they were and carry no revision, a part of
+ * the store must carry one, and a part of a copy none; a commit that is done or stops found no tail, and a clear leaves the history and zeros. A commit that stops
+ * leaves the copy's bytes as they were, the history, n blocks of content and zeros; a clear that stops leaves all but the n highest blocks of the tail. Exits 1, with
+ * the seed and the call's number, if that is not so. A touch of a byte outside a piece ends the program.
  */
 #define _DEFAULT_SOURCE
 #include "sheetstore.h"
@@ -73,7 +74,7 @@ static void give_back(struct piece p) {
 
 static uint8_t store[MAX_STORE], copies[COPIES_LEN], hurt_store[MAX_STORE], hurt_copies[COPIES_LEN + SHEETS_BLOCK];
 static size_t store_len;
-static unsigned long answered[15], replayed[15], cleared;
+static unsigned long answered[15], replayed[15], cleared, stopped_commits, stopped_clears;
 
 static void seal(uint8_t *block) {
     uint32_t a = 0, b = 0;
@@ -101,6 +102,22 @@ static bool all_zero(const uint8_t *bytes, size_t len) {
 static size_t history_len(const uint8_t *bytes, size_t len) {
     while (len > SHEETS_BLOCK && (bytes[len - SHEETS_BLOCK] != 3 || !sealed(bytes + len - SHEETS_BLOCK))) len -= SHEETS_BLOCK;
     return len;
+}
+
+/* The bytes up to the last block that is not all zero. */
+static size_t filled_len(const uint8_t *bytes, size_t len) {
+    while (len > 0 && all_zero(bytes + len - SHEETS_BLOCK, SHEETS_BLOCK)) len -= SHEETS_BLOCK;
+    return len;
+}
+
+/* Whether a cut call on an accepted store that stopped left another store than it should, after n writes. */
+static bool stopped_wrong(const uint8_t *before, const uint8_t *after, size_t len, bool clears, uint32_t n) {
+    size_t used = history_len(before, len), filled = filled_len(before, len), left = clears ? filled - n * SHEETS_BLOCK : used + n * SHEETS_BLOCK;
+    if (clears ? n >= (filled - used) / SHEETS_BLOCK : filled != used || n > 32 || left + SHEETS_BLOCK > len) return true;
+    if (memcmp(before, after, clears ? left : used) != 0 || !all_zero(after + left, len - left)) return true;
+    for (size_t at = used; !clears && at < left; at += SHEETS_BLOCK)
+        if (after[at] != 2 || !sealed(after + at)) return true;
+    return false;
 }
 
 /* Puts a tail behind the history of an accepted store, as far as there is room, in place of the one that is there. */
@@ -141,8 +158,8 @@ static bool call(uint8_t *store_at, size_t store_size, uint8_t *copy_at, size_t 
     static const uint32_t some[] = {0, 1, 2, 3, 5, 31};
     uint32_t sheet = below(8) ? some[below(6)] : below(34), other = below(8) ? some[below(6)] : below(34);
     uint32_t mask = below(3) ? UINT32_MAX : below(2) ? 1u << sheet % 32 : below(4) * 0x01234567u, revision = below(below(2) ? 4 : 40);
-    uint32_t kind = below(19);
-    bool clears = kind == 12, commits = kind > 12;
+    uint32_t kind = below(24), n = below(2) ? below(3) : below(2) ? below(34) : UINT32_MAX - below(2), stopped = 0;
+    bool clears = kind == 12 || kind == 13, commits = kind > 13;
     uint8_t text[481];
     size_t text_len = below(16) == 0 ? 480 + below(2) : below(4);
     memset(text, (int)below(256), sizeof text);
@@ -179,11 +196,21 @@ static bool call(uint8_t *store_at, size_t store_size, uint8_t *copy_at, size_t 
         if (answer.value != 0 || refusal > SHEETS_REFUSED_STORE_LAYOUT) return true;
         break;
     }
+    case 13: case 14: case 15: case 16: case 17: case 18: {
+        sheets_cut_answer answer = clears ? sheets_clear_cut(s.bytes, s.len, n) : sheets_commit_cut(s.bytes, s.len, c.bytes, c.len, below(UINT32_MAX), mask, n);
+        refusal = answer.refusal, stopped = answer.stopped;
+        if (stopped > 1 || (stopped && refusal != 0) || (answer.value != 0) != (commits && refusal == 0 && !stopped)) return true;
+        if (clears && refusal > SHEETS_REFUSED_STORE_LAYOUT) return true;
+        break;
+    }
     default: refusal = sheets_commit(s.bytes, s.len, c.bytes, c.len, below(UINT32_MAX), mask).refusal;
     }
     answered[refusal]++;
     bool wrong = refusal != 0 && (memcmp(s.bytes, store_at, s.len) != 0 || memcmp(c.bytes, copy_at, c.len) != 0);
-    if ((clears || commits) && refusal == 0) {
+    if (stopped) {
+        wrong |= memcmp(c.bytes, copy_at, c.len) != 0 || stopped_wrong(store_at, s.bytes, s.len, clears, n);
+        clears ? stopped_clears++ : stopped_commits++;
+    } else if ((clears || commits) && refusal == 0) {
         size_t used = history_len(store_at, store_size);
         bool tail = !all_zero(store_at + used, store_size - used);
         wrong |= memcmp(s.bytes, store_at, used) != 0;
@@ -202,15 +229,17 @@ static size_t make_script(uint8_t *script) {
     for (size_t i = 0; i < len; i++) script[i] = (uint8_t)below(256);
     for (uint8_t *record = script; record < script + len; record += SHEETS_RECORD_LEN) {
         uint32_t bytes = below(8) ? below(4) : below(497);
-        record[0] = (uint8_t)(below(3) ? 1 + below(13) : 6), record[1] = (uint8_t)(1 + below(4));
+        record[0] = (uint8_t)(below(3) ? 1 + below(15) : below(2) ? 6 : 14), record[1] = (uint8_t)(1 + below(4));
+        bool commits = record[0] == 6 || record[0] == 14;
         record[2] = (uint8_t)bytes, record[3] = (uint8_t)(bytes >> 8);
-        if (record[0] != 6 && record[0] != 7 && record[0] != 8) record[4] = (uint8_t)below(6), record[5] = record[6] = record[7] = 0;
-        record[8] = (uint8_t)(record[0] == 6 ? 255 : below(6)), record[9] = record[10] = record[11] = 0;
+        if (!commits && record[0] != 7 && record[0] != 8) record[4] = (uint8_t)below(6), record[5] = record[6] = record[7] = 0;
+        record[8] = (uint8_t)(commits ? 255 : below(6)), record[9] = record[10] = record[11] = 0;
+        if (record[0] == 14 && below(4)) record[12] = (uint8_t)below(5), record[13] = record[14] = record[15] = 0;
     }
     if (len != 0 && below(8) == 0) {
         uint8_t *record = script + SHEETS_RECORD_LEN * below((uint32_t)(len / SHEETS_RECORD_LEN));
         switch (below(4)) {
-        case 0: record[0] = below(2) ? 0 : 14; break;
+        case 0: record[0] = below(2) ? 0 : 16; break;
         case 1: record[1] = below(2) ? 0 : 5; break;
         case 2: record[2] = 241, record[3] = 1; break; /* 497 bytes */
         default: len -= 1 + below(511);
@@ -296,6 +325,6 @@ int main(int argc, char **argv) {
     }
     tell("calls", answered);
     tell("replays", replayed);
-    printf("tails cleared: %lu\n", cleared);
+    printf("tails cleared: %lu; commits stopped: %lu; clears stopped: %lu\n", cleared, stopped_commits, stopped_clears);
     return 0;
 }

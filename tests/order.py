@@ -4,10 +4,11 @@
 order.py [--seed N] [--lists N] [--only K]
 
 For each list of calls another one that makes the same history by other calls: both call by call and as scripts, on four fresh stores of one size, which must be
-equal, though one of them is found with tails on its way, which are cleared; and one that makes another history, which must leave other bytes. Then a history in a
-random order of its changes and of its content blocks: accepted, and read as the model does; more calls on it, which must leave the blocks that are there and lay
-out theirs in W1's order; and damage, as tests/calls.py and tests/replay.py do it. Then stores laid out by hand. At the first list that fails its seed and number
-are printed: `--seed N --only K` runs that list alone.
+equal once their tails are cleared, though commits and clearings between were stopped half way and one of the stores is found with other tails on its way; and one
+that makes another history, which must leave other bytes. W6: "W1 speaks of stores without a tail." Then a history in a random order of its changes and of its
+content blocks: accepted, and read as the model does; more calls on it, which must leave the blocks that are there and lay out theirs in W1's order; and damage, as
+tests/calls.py and tests/replay.py do it. Then stores laid out by hand. At the first list that fails its seed and number are printed: `--seed N --only K` runs that
+list alone.
 """
 import collections, pathlib, random, sys
 
@@ -21,9 +22,11 @@ from sheets import ADD, CHANGE, COPY, DELETE
 LOOKS = ('read', 'show', 'status', 'log')
 WAYS = ('last commit', 'stamp', 'seat', 'byte', 'length', 'source', 'action')
 SHARED = ('copies that share a block', 'of them between two content blocks', 'in a block that W1 numbers otherwise', 'past block 255')
-BETWEEN = ('calls on entries that no commit takes', 'looks', 'clears', *(f'calls refused with {n}' for n in range(7, 14)))
+BETWEEN = ('calls on entries that no commit takes', 'looks', 'clears', 'stopped commits', 'stopped clearings', *(f'calls refused with {n}' for n in range(7, 15)))
+CUT = ('calls beside a tail', 'commits of a history as cut calls')
 RING = 'rings of copies'
-seen = collections.Counter(dict.fromkeys(['pairs', 'tails cleared', 'stores in another order', 'left out', *SHARED, RING, *BETWEEN, *(f'another {way}' for way in WAYS)], 0))
+ANOTHER = tuple(f'another {way}' for way in WAYS)
+seen = collections.Counter(dict.fromkeys(['pairs', 'tails cleared', 'stores in another order', 'left out', *SHARED, RING, *BETWEEN, *CUT, *ANOTHER], 0))
 
 
 # ---- histories
@@ -156,7 +159,25 @@ class Maker:
             answer = trial.call(*c)
             if trial.last() == self.model.last() and all(trial.seats[seat][i] == self.model.seats[seat][i] for i in kept):
                 self.call(*c)
-                self.seen[f'calls refused with {answer[1]}' if answer[0] == 'no' else BETWEEN[2 if c[0] == 'clear' else c[0] in LOOKS]] += 1
+                if answer[0] == 'no':
+                    what = f'calls refused with {answer[1]}'
+                elif answer[0] == 'stopped':
+                    what = 'stopped commits' if c[0] == 'commit_cut' else 'stopped clearings'
+                else:
+                    what = 'clears' if c[0] in ('clear', 'clear_cut') else BETWEEN[c[0] in LOOKS]
+                self.seen[what] += 1
+
+    def cut(self, *commit):
+        """A commit that stops half way, now and then, if it would be done; a tail is cleared then, in one call or in several."""
+        blocks = self.model.asked(*commit)[2]
+        if blocks and self.rng.random() < 0.3:
+            self.call('commit_cut', *commit, self.rng.randrange(blocks))
+            self.seen['stopped commits'] += 1
+        while self.model.tail and self.rng.random() < 0.5:
+            self.call('clear_cut', 1, self.rng.randint(0, self.model.tail))
+            self.seen['stopped clearings'] += self.said[-1] == ('stopped',)
+        if self.model.tail:
+            self.call('clear', 1)
 
     def based(self, seat, sheet, revision, kept):
         """Brings an entry to what it is at a revision, and perhaps others, but none that is kept."""
@@ -245,7 +266,13 @@ class Maker:
             if self.rng.random() < 0.3:
                 self.undone(seat, self.rng.choice([i for i in changes if i in kept and i not in todo]), kept)
         others = [i for i in range(32) if i not in changes and not self.model.pending(i, self.model.seats[seat][i])]
-        self.call('commit', seat, stamp, mask(changes) | mask(self.rng.sample(others, self.rng.randint(0, len(others)))))
+        commit = seat, stamp, mask(changes) | mask(self.rng.sample(others, self.rng.randint(0, len(others))))
+        self.cut(*commit)
+        if self.rng.random() < 0.3:
+            self.call('commit_cut', *commit, self.model.asked(*commit)[2] + self.rng.choice([0, 0, 1, 33]))
+            self.seen['commits of a history as cut calls'] += 1
+        else:
+            self.call('commit', *commit)
         return True
 
     def moves(self, sheet, changes, sources):
@@ -276,6 +303,12 @@ def made(rng, blocks, history):
         maker.noise()
     assert maker.model.history == history
     return maker
+
+
+def bare(maker):
+    """The calls clear what tail they left."""
+    if maker.model.tail:
+        maker.call('clear', 1)
 
 
 # ---- the engine
@@ -315,15 +348,20 @@ def pair(engine, rng):
         return
     assert first.model.history == second.model.history != third.model.history and first.calls != second.calls
     wanted = layout.store_bytes(blocks, history)
+    for maker in (first, second, third):
+        bare(maker)
     for what, maker in (('the first list', first), ('the second list', second)):
-        desk, script = calls.Desk.fresh(engine, blocks), replay.Desk.fresh(engine, blocks)
+        desk, script, found = calls.Desk.fresh(engine, blocks), replay.Desk.fresh(engine, blocks), False
         for c in maker.calls:
-            if desk.model.tail and c[0] == 'commit':
+            if found and c[0] in calls.COMMITS:  # not a tail that the list's own calls left
                 desk.call('clear', 1)
                 seen['tails cleared'] += 1
+                found = False
             desk.call(*c)
-            if maker is second and rng.random() < 0.1:
+            if maker is second and (found or not desk.model.tail) and rng.random() < 0.1:
                 desk.leave(calls.random_tail(rng, desk.model))
+                found = True
+            seen['calls beside a tail'] += desk.model.tail > 0
         desk.call('clear', 1)
         script.replay(what, maker.script(), maker.said)
         script.held_to(what, maker.model)
@@ -348,6 +386,7 @@ def other_order(engine, rng, number):
         seen['left out'] += 1
         return
     model = before.model
+    model.tail = 0
     if rng.random() < 0.3:
         model.seats = sheets.Machine(model.blocks).seats
     shuffled = lambda xs: rng.sample(xs, len(xs))
@@ -415,7 +454,7 @@ def main():
             break
     by_hand(engine)
     if given.enough and not wrong():
-        for what in (*SHARED, *BETWEEN, 'tails cleared'):
+        for what in (*SHARED, *BETWEEN, *CUT, 'tails cleared'):
             if not seen[what]:
                 fail(f'the lists have none of: {what}')
         if seen['left out'] > given.lists // 10:

@@ -3,10 +3,11 @@
 
 replay.py [--seed N] [--lists N] [--only K]
 
-Lists of random calls by four seats, in several scripts on one desk and in one script on another; or in several scripts, and the store is found with a tail between
-them. What a record has no use for holds anything, and so does what the answers have beyond the script. Then damaged buffers, with and without a tail, and bad
-scripts: the first refusal by tests/model/accept.py and nothing changed, or the model's run. Then every fault alone and every two of them, scripts that begin on
-a tail, and the worked script of docs/LAYOUT.md. What the calls met of W2, W3 and W5 is counted as in tests/calls.py.
+Lists of random calls by four seats, cut commits and clearings among them, in several scripts on one desk and in one script on another; or in several scripts, and the
+store is found with a tail between them. What a record has no use for holds anything, and so does what the answers have beyond the script. Then damaged buffers,
+with and without a tail, and bad scripts: the first refusal by tests/model/accept.py and nothing changed, or the model's run. Then every fault alone and every two of
+them, scripts that begin on a tail, cut calls in records written by hand, and the worked script of docs/LAYOUT.md. What the calls met of W2, W3, W5 and W6 is counted
+as in tests/calls.py.
 At the first list that fails its seed and number are printed: `--seed N --only K` runs that list alone.
 """
 import itertools, pathlib, random, re, sys
@@ -88,36 +89,40 @@ def random_record(rng, call):
     return script.call_record(*call, unused=rng.choice([bytes(512), rng.randbytes(512)]))
 
 
-def random_calls(rng, model, count):
-    """Calls, and the answers of the model, which makes them."""
+def random_calls(rng, model, store, count):
+    """Calls, the answers of the model, which makes them, and the store after them."""
     some, answers = [], []
     for _ in range(count):
         c = lists.random_call(rng, model)
         if c[0] in ('add', 'edit') and rng.random() < 0.02:
             c = (*c[:-1], rng.randbytes(rng.randint(477, script.MOST)))
         some.append(c)
-        answers.append(lists.made(model, c))
-    return some, answers
+        said, store = played(model, store, [c])
+        answers += said
+    return some, answers, store
 
 
 def random_list(engine, rng):
-    """A list in several scripts on one desk, and in one script on another. The latter where no script found a tail, which no call makes."""
+    """A list in several scripts on one desk, and in one script on another. The latter where no script found a tail that no call made."""
     blocks, tails = rng.choice([2, 3, 4, 8, 12, 32, 64, 65, 200, 1000, 4096]), rng.random() < 0.4
-    model, desk, tail, whole, said = sheets.Machine(blocks), Desk.fresh(engine, blocks), [], b'', []
+    model, desk, store, whole, said = sheets.Machine(blocks), Desk.fresh(engine, blocks), layout.store_bytes(blocks, []), b'', []
     for n in range(rng.randint(1, 8)):
         if tails and rng.random() < 0.7:
             tail = random_tail(rng, model)
             desk.leave(tail)
-            model.tail = len(tail)
-        some, answers = random_calls(rng, model, rng.choice([0, 1, 2, 20, 60, 60]))
+            store = layout.tailed(store, tail)
+            lists.found(model, len(tail))
+        some, answers, store = random_calls(rng, model, store, rng.choice([0, 1, 2, 20, 60, 60]))
         text = b''.join(random_record(rng, c) for c in some)
         desk.replay(f'script {n}', text, answers, rng.randbytes(rng.choice([0, 1, 511, 512, 1000])))
-        desk.held_to(f'script {n}', model, layout.tailed(layout.store_bytes(blocks, model.history), tail if model.tail else []))
+        desk.held_to(f'script {n}', model, store)
         whole, said = whole + text, said + answers
+    if layout.cleared(store) != layout.store_bytes(blocks, model.history):
+        fail('the scripts leave another layout of the history')
     if not tails:
         other = Desk.fresh(engine, blocks)
         other.replay('the whole script', whole, said, rng.randbytes(rng.choice([0, 700])))
-        other.held_to('the whole script', model)
+        other.held_to('the whole script', model, store)
     return desk, model
 
 
@@ -142,7 +147,7 @@ def bad_script(rng, text):
     at = rng.randrange(len(text) // 512) * 512
     fault = rng.choice(['kind', 'seat', 'bytes', 'length'])
     if fault == 'kind':
-        text[at] = rng.choice([0, 14, 255])
+        text[at] = rng.choice([0, 16, 255])
     elif fault == 'seat':
         text[at + 1] = rng.choice([0, 5, 255])
     elif fault == 'bytes':
@@ -221,20 +226,21 @@ def faults():
                 (f'copy {k}', 7, in_copy(k, 0, layout.sealed([4, k % 4 + 1])))]
     bad = [lambda b: b[:-1], lambda b: b + bytes(1), lambda b: b[:1], lambda b: b + bytes(512)]
     for record in (0, 1, 2):
-        bad += [changed(512 * record, bytes([kind])) for kind in (0, 14, 255)]
-        bad += [changed(512 * record, bytes([13, seat])) for seat in (0, 5)] + [changed(512 * record, bytes([13, 1]) + layout.two(497))]
+        bad += [changed(512 * record, bytes([kind])) for kind in (0, 16, 255)]
+        for kind in (13, 14, 15):
+            bad += [changed(512 * record, bytes([kind, seat])) for seat in (0, 5)] + [changed(512 * record, bytes([kind, 1]) + layout.two(497))]
         bad += [changed(512 * record + 1, bytes([seat])) for seat in (0, 5, 255)]
         bad += [changed(512 * record + 2, layout.two(n)) for n in (497, 65535)]
     out += [('script', 7, in_script(b)) for b in bad]
     return out + [('answers', 7, lambda s, n=n: s.update(answers=s['answers'][:n])) for n in (1535, 1024, 0)]
 
 
-def one_revision():
-    """A model with one revision, its store of 8 blocks and its copies."""
-    model = sheets.Machine(8)
+def one_revision(blocks=8):
+    """A model with one revision, its store of so many blocks and its copies."""
+    model = sheets.Machine(blocks)
     model.call('add', 2, 5, b'A')
     model.call('commit', 2, 7, 1 << 5)
-    return model, layout.store_bytes(8, model.history), b''.join(layout.copy_bytes(k, model.seats[k]) for k in SEATS)
+    return model, layout.store_bytes(blocks, model.history), b''.join(layout.copy_bytes(k, model.seats[k]) for k in SEATS)
 
 
 def every_fault(engine):
@@ -274,6 +280,32 @@ def on_tails(engine):
             desk.held_to(f'after a tail with {what}', after)
 
 
+def cut_calls(engine):
+    """Records of cut calls by hand: kind 14 has n in bytes 12-15, kind 15 in bytes 4-7; where the call stopped bytes 8-11 of its answer's record are 1."""
+    record = lambda *head: bytes(head).ljust(512, b'\0')
+    add, stopped, zeros, revision = record(1, 2, 1, 0, 5, 0, 0, 0, 0, 0, 0, 0, 0, 0, 0, 0, 65), record(0, 0, 0, 0, 0, 0, 0, 0, 1), record(), record(0, 0, 0, 0, 1)
+    commit = lambda *n: record(14, 2, 0, 0, 7, 0, 0, 0, 255, 255, 255, 255, *n)
+    clear = lambda *n: record(15, 4, 0, 0, *n)
+    look = record(9, 1, 0, 0, 1, 0, 0, 0, 5), record(*[0] * 8, 1, *[0] * 19, 1, 0, 0, 0, 65)
+    most = (255, 255, 255, 255)
+    rows = [(commit(), record(10)), (clear(), zeros), (add, zeros), (commit(), stopped), (commit(), stopped), (clear(), zeros), (commit(1), stopped),
+            (commit(), record(14)), (commit(*most), record(14)), (record(6, 2, 0, 0, 7, 0, 0, 0, 255), record(14)), (clear(), stopped), (clear(1), zeros), (clear(1), zeros),
+            (commit(0, 1), revision), (commit(*most), record(10)), (clear(*most), zeros), look]
+    for enough in ((2,), (3,), (2, 1), (2, 0, 1), (2, 0, 0, 1), (0, 0, 1), (0, 0, 0, 1), most):
+        rows[13] = commit(*enough), revision
+        desk = Desk.fresh(engine, 4)
+        text, wanted = (b''.join(column) for column in zip(*rows))
+        answers = bytearray(b'\x5a' * len(text))
+        if engine.replay(text, desk.store, desk.copies, answers) != ('done',) or answers != wanted:
+            fail(f'the records by hand, with n of {enough}')
+        desk.held_to('the records by hand', one_revision(4)[0])
+    for kept, blocks in ((3, 1), (4, 0)):  # the records before the cut leave a store with a block of content, and the fresh one
+        desk, text = Desk.fresh(engine, 4), b''.join((add, commit(), commit(1), clear(1))[:kept])
+        engine.replay(text, desk.store, desk.copies, bytearray(len(text)))
+        if desk.store != layout.tailed(layout.store_bytes(4, []), [layout.content(1, b'A')] * blocks):
+            fail('the records by hand leave another tail')
+
+
 def example(engine):
     """The worked script of docs/LAYOUT.md, byte by byte as its table has it."""
     def record(cell):
@@ -307,8 +339,9 @@ def main():
     filling(engine)
     every_fault(engine)
     on_tails(engine)
+    cut_calls(engine)
     example(engine)
-    never = lists.tally(given.enough and not failed, [r for r in lists.COUNTED if r != lists.FIRST])
+    never = lists.tally(given.enough and not failed, [r for r in lists.COUNTED if r not in (lists.FIRST, lists.DAMAGED)])
     print(f'{scripts} scripts, {calls} calls done, {failed} wrong')
     sys.exit(failed + never != 0)
 

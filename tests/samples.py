@@ -1,6 +1,6 @@
 #!/usr/bin/env python3
-"""Lists and calls with known answers, on the engine's C library and on tests/model: samples that were made elsewhere, and lists written by hand from W2, W3 and
-W5.
+"""Lists and calls with known answers, on the engine's C library and on tests/model: samples that were made elsewhere, and lists written by hand from W2, W3, W5 and
+W6.
 
 samples.py FILE..
 
@@ -35,7 +35,7 @@ def by_calls(engine, what, blocks, some, answers):
         if c[0] == 'found':
             desk.leave(c[1])
             continue
-        said = desk.call(*c)
+        said = desk.power(*c[2:], WRONG) if c[0] == 'power' else desk.call(*c)
         if said != wanted:
             fail(f'the model at {c}: {said}, not {wanted}')
     desk.whole()
@@ -44,10 +44,21 @@ def by_calls(engine, what, blocks, some, answers):
     return desk
 
 
+def torn(engine, desk, call, n, how):
+    """A store after a power cut at the call's block write n, by the cut calls alone."""
+    name, seat, *args = call
+    stores = [bytearray(desk.store), bytearray(desk.store)]
+    for k in (0, 1):
+        engine.call(f'{name}_cut', stores[k], replay.cut(desk.copies)[seat], *args, n + k)
+    place = next(k for k in range(len(desk.store) // 512) if stores[0][k * 512:k * 512 + 512] != stores[1][k * 512:k * 512 + 512])
+    return {'old': stores[0], 'new': stores[1], 'junk': calls.with_block(bytes(stores[0]), place, WRONG)}[how]
+
+
 def by_script(engine, what, blocks, some, answers):
-    """As one script; a call that takes more bytes than a record holds is made by itself, between two scripts, and there the store can be found with a tail."""
+    """As one script; a call that takes more bytes than a record holds is made by itself, between two scripts, and there the power can fail or the store be found
+    with a tail."""
     desk = replay.Desk.fresh(engine, blocks)
-    short = lambda pair: pair[0][0] != 'found' and (pair[0][0] not in ('add', 'edit') or len(pair[0][-1]) <= script.MOST)
+    short = lambda pair: pair[0][0] not in ('found', 'power') and (pair[0][0] not in ('add', 'edit') or len(pair[0][-1]) <= script.MOST)
     for encodable, pairs in itertools.groupby(zip(some, answers), short):
         part, said = zip(*pairs)
         if encodable:
@@ -56,6 +67,8 @@ def by_script(engine, what, blocks, some, answers):
         for c, a in zip(part, said):
             if c[0] == 'found':
                 desk.leave(c[1])
+            elif c[0] == 'power':
+                desk.store[:] = torn(engine, desk, *c[2:])
             elif engine.call(c[0], desk.store, replay.cut(desk.copies)[c[1]], *c[2:]) != a or a[0] != 'no':
                 fail(f'{what}: {c} is not {a}')
     return desk
@@ -67,7 +80,7 @@ def ends(what, end, wanted, store, copies):
     if (used, tail, history, {k: layout.entries_of(c) for k, c in copies.items()}) != wanted:
         fail(f'{what}: another end')
     digest = lambda buffer: hashlib.sha256(buffer).hexdigest()
-    if {'store': digest(store), 'copies': [digest(c) for c in copies.values()]} != end['sha256']:
+    if {'store': None if tail else digest(store), 'copies': [digest(c) for c in copies.values()]} != end['sha256']:
         fail(f'{what}: other bytes at the end')
 
 
@@ -121,7 +134,7 @@ def from_cases(engine, path):
             fail(f'{what} leaves other buffers')
 
 
-# ---- W2, W3 and W5 by hand
+# ---- W2, W3, W5 and W6 by hand
 
 START = [(('add', 1, 4, b'A'), 'done'), (('add', 1, 5, b'A'), 'done'), (('add', 1, 6, b'A'), 'done'), (('commit', 1, 7, ALL), 'revision 1'),
          (('update', 2, ALL, 1), 'done')]
@@ -133,6 +146,12 @@ def found(*tail):
     return ('found', list(tail)), None
 
 
+def cut(call, n, how):
+    """The power fails while the call writes its block number n, which is then old, new or junk."""
+    return ('power', 1, call, n, how), 'cut'
+
+
+TWO = [(('add', 1, 5, b'A'), 'done'), (('add', 1, 9, b'B'), 'done')]  # a commit of two content blocks and the commit block
 BY_HAND = {
     # W2
     'the same edit': START + [
@@ -316,6 +335,58 @@ BY_HAND = {
         (('commit', 4, 8, ALL), 'no 14'), (('commit', 4, 8, ALL ^ 1 << 6), 'no 14'), (('clear', 4), 'done'), (('commit', 4, 8, ALL), 'no 11'),
         (('commit', 4, 8, ALL ^ 1 << 6), 'revision 2'), (('edit', 1, 5, b'B'), 'done'), (('commit', 1, 9, ALL), 'no 13'), (('delete', 1, 4), 'done'),
         (('commit', 1, 9, 1 << 4), 'revision 3'), (('clear', 1), 'done'), (('read', 1, 3, 31), ('bytes', b'X', 2))],
+    # W6
+    'a commit stopped at each of its writes': TWO + [
+        (('commit_cut', 1, 7, ALL, 0), 'stopped'), (('status', 1, 5), 'status 5 0'), (('commit_cut', 1, 7, ALL, 0), 'stopped'), (('clear_cut', 1, 0), 'done'),
+        (('commit_cut', 1, 7, ALL, 1), 'stopped'), (('status', 1, 5), 'status 5 0'), (('read', 1, 1, 5), 'no 7'), (('commit_cut', 1, 7, ALL, 1), 'no 14'),
+        (('commit', 1, 7, ALL), 'no 14'), (('clear_cut', 1, 0), 'stopped'), (('commit', 1, 7, ALL), 'no 14'), (('clear_cut', 1, 1), 'done'),
+        (('commit_cut', 1, 7, ALL, 2), 'stopped'), (('status', 1, 9), 'status 5 0'), (('log', 1, 1, 5), 'no 7'), (('show', 1, 9), ('bytes', b'B', None)),
+        (('commit_cut', 1, 7, ALL, 3), 'no 14'), (('clear_cut', 2, 1), 'stopped'), (('commit', 1, 7, ALL), 'no 14'), (('clear_cut', 3, 1), 'done'),
+        (('commit_cut', 1, 7, ALL, 3), 'revision 1'), (('status', 1, 5), 'status 1 1'), (('read', 1, 1, 9), ('bytes', b'B', 1)),
+        (('commit_cut', 1, 8, ALL, 3), 'no 10'), (('clear_cut', 1, 0), 'done')],
+    'n more than enough': TWO + [
+        (('commit_cut', 1, 7, 1 << 5, 2), 'revision 1'), (('commit_cut', 1, 8, 1 << 9, 4294967295), 'revision 2'), (('delete', 1, 5), 'done'),
+        (('commit_cut', 1, 9, ALL, 33), 'revision 3'), (('copy', 1, 9, 10), 'done'), (('commit_cut', 1, 10, ALL, 2), 'revision 4'),
+        (('log', 1, 4, 10), ('log', 1, 10, 1, (4, (9, 2)))), (('clear_cut', 1, 4294967295), 'done'), (('read', 1, 4, 10), ('bytes', b'B', 4))],
+    'commits of no content': START + [
+        (('delete', 2, 5), 'done'), (('commit_cut', 2, 8, ALL, 0), 'stopped'), (('status', 2, 5), 'status 6 1'), (('clear_cut', 2, 0), 'done'),
+        (('commit_cut', 2, 8, ALL, 1), 'revision 2'), (('status', 2, 5), 'status 0 2'), (('copy', 2, 4, 10), 'done'), (('move', 2, 6, 11), 'done'),
+        (('commit_cut', 2, 9, ALL, 0), 'stopped'), (('commit', 2, 9, ALL), 'revision 3'), (('log', 1, 3, 11), ('log', 2, 9, 3, (4, (6, 1))))],
+    'refused whatever n is': START + [
+        *((('commit_cut', 1, 8, 0, n), 'no 7') for n in (0, 1, 33)), *((('commit_cut', 1, 8, ALL, n), 'no 10') for n in (0, 1, 33)),
+        (('edit', 1, 5, b'B'), 'done'), (('edit', 2, 5, b'C'), 'done'), (('commit_cut', 1, 8, ALL, 2), 'revision 2'),
+        *((('commit_cut', 2, 9, ALL, n), 'no 11') for n in (0, 1, 33)), *((('add', 4, i, b'X'), 'done') for i in range(7, 32)), (('add', 4, 0, b'X'), 'done'),
+        *((('commit_cut', 4, 9, ALL, n), 'no 13') for n in (0, 1, 26, 27, 33)), *((('commit_cut', 4, 9, ALL ^ 1, n), 'no 13') for n in (0, 1, 25, 26)),
+        (('commit_cut', 4, 9, ALL ^ 129, 0), 'stopped'), (('commit_cut', 4, 9, ALL ^ 129, 24), 'stopped'), *((('commit_cut', 4, 9, 0, n), 'no 14') for n in (0, 1, 33)),
+        (('clear', 1), 'done'), (('commit_cut', 4, 9, ALL ^ 129, 25), 'revision 3'), (('delete', 1, 4), 'done'), (('commit_cut', 1, 10, ALL, 0), 'no 13')],
+    'a stopped commit, cleared, and another by another seat': TWO + [
+        (('commit_cut', 1, 7, ALL, 2), 'stopped'), (('add', 2, 5, b'C'), 'done'), (('commit', 2, 8, ALL), 'no 14'), (('clear_cut', 2, 1), 'stopped'),
+        (('clear', 2), 'done'), (('commit', 2, 8, ALL), 'revision 1'), (('log', 1, 1, 5), ('log', 2, 8, 1, (1, None))), (('commit_cut', 1, 7, ALL, 2), 'no 11'),
+        (('update', 1, ALL, 1), 'no 12'), (('edit', 1, 5, b'C'), 'done'), (('update', 1, ALL, 1), 'done'), (('commit_cut', 1, 7, ALL, 1), 'stopped'),
+        (('read', 1, 1, 9), 'no 8'), (('clear_cut', 4, 5), 'done'), (('commit_cut', 1, 7, ALL, 2), 'revision 2'), (('read', 1, 2, 9), ('bytes', b'B', 2))],
+    'the power fails within a commit': TWO + [
+        cut(('commit', 1, 7, ALL), 0, 'old'), (('status', 1, 5), 'status 5 0'), (('clear_cut', 1, 0), 'done'),
+        cut(('commit', 1, 7, ALL), 0, 'junk'), (('read', 1, 1, 5), 'no 7'), (('commit', 1, 7, ALL), 'no 14'), (('clear_cut', 1, 0), 'stopped'),
+        (('clear_cut', 1, 1), 'done'), cut(('commit', 1, 7, ALL), 0, 'new'), (('commit', 2, 7, ALL), 'no 14'), (('clear_cut', 1, 1), 'done'),
+        cut(('commit', 1, 7, ALL), 1, 'junk'), (('show', 1, 9), ('bytes', b'B', None)), (('clear_cut', 1, 1), 'stopped'), (('clear_cut', 1, 1), 'done'),
+        cut(('commit', 1, 7, ALL), 2, 'old'), (('clear_cut', 1, 1), 'stopped'), (('clear', 1), 'done'),
+        cut(('commit', 1, 7, ALL), 2, 'junk'), (('log', 1, 1, 5), 'no 7'), (('status', 2, 5), 'status 0 0'), (('clear_cut', 1, 2), 'stopped'), (('clear', 1), 'done'),
+        (('commit', 1, 7, ALL), 'revision 1'), (('read', 1, 1, 9), ('bytes', b'B', 1))],
+    'the power fails when the commit block is new': TWO + [
+        cut(('commit', 1, 7, ALL), 2, 'new'), (('read', 1, 1, 5), ('bytes', b'A', 1)), (('log', 1, 1, 9), ('log', 1, 7, 2, (1, None))), (('status', 2, 9), 'status 8 1'),
+        (('status', 1, 5), 'status 5 1'), (('clear_cut', 1, 0), 'done'), (('commit', 1, 7, ALL), 'no 11'), (('commit_cut', 1, 7, ALL, 0), 'no 11'),
+        (('update', 1, ALL, 1), 'done'), (('status', 1, 5), 'status 1 1'), (('commit', 1, 7, ALL), 'no 10'), (('edit', 1, 5, b'C'), 'done'),
+        cut(('commit', 1, 8, ALL), 1, 'new'), (('status', 1, 5), 'status 4 2'), (('read', 1, 2, 5), ('bytes', b'C', 2)), (('update', 1, ALL, 2), 'done'),
+        (('status', 1, 5), 'status 1 2'), (('delete', 1, 9), 'done'), cut(('commit', 1, 9, ALL), 0, 'new'), (('read', 1, 3, 9), 'no 8'),
+        (('status', 1, 9), 'status 6 3'), (('update', 1, ALL, 3), 'no 12'), (('revert', 1, 1 << 9), 'done'), (('update', 1, ALL, 3), 'done'),
+        (('status', 1, 9), 'status 0 3')],
+    'the power fails within clearings': TWO + [
+        (('commit_cut', 1, 7, ALL, 2), 'stopped'), cut(('clear', 1), 0, 'old'), cut(('clear', 1), 0, 'junk'), (('commit', 1, 7, ALL), 'no 14'),
+        (('read', 1, 1, 5), 'no 7'), cut(('clear', 2), 0, 'junk'), (('clear_cut', 2, 0), 'stopped'), cut(('clear', 3), 1, 'old'), (('clear_cut', 3, 1), 'done'),
+        (('commit_cut', 1, 7, ALL, 2), 'stopped'), cut(('clear', 1), 1, 'junk'), cut(('clear', 1), 0, 'old'), (('commit', 1, 7, ALL), 'no 14'),
+        cut(('clear', 1), 0, 'new'), (('clear', 1), 'done'), (('commit', 1, 7, ALL), 'revision 1'), (('edit', 1, 9, b'C'), 'done'),
+        cut(('commit', 1, 8, ALL), 1, 'junk'), cut(('clear', 1), 0, 'new'), cut(('clear', 1), 0, 'junk'), (('read', 1, 1, 9), ('bytes', b'B', 1)),
+        (('clear_cut', 1, 1), 'done'), (('commit_cut', 1, 8, ALL, 2), 'revision 2'), (('read', 1, 2, 9), ('bytes', b'C', 2))],
 }
 LONG = {  # on a larger store
     'past revision 255': START + [
@@ -338,7 +409,7 @@ def from_hand(engine):
         blocks = 600 if what in LONG else 32
         some, answers = zip(*((c, in_words(said) if isinstance(said, str) else said) for c, said in rows))
         desk = by_calls(engine, what, blocks, some, answers)
-        by_script(engine, what, blocks, some, answers).held_to(f'{what} as a script', desk.model)
+        by_script(engine, what, blocks, some, answers).held_to(f'{what} as a script', desk.model, bytes(desk.store))
 
 
 def main():

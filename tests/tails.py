@@ -1,11 +1,12 @@
 #!/usr/bin/env python3
-"""W5 of document 02 through the engine's C library: stores that end in a tail, and stores whose end is no tail.
+"""W5 of document 02 through the engine's C library: stores that end in a tail, and stores whose end is no tail. The calls that W6 cuts are among them.
 
 tails.py [SEED]
 
 Every store of 2 to 5 blocks out of seven: its number, and what clear leaves. Each rule of the tail broken alone, with the number that must come from every call.
 Tails of every size with every kind of block with a wrong check: every call but commit answers as on the bare store, which has zero blocks there, and leaves the
-tail; commit gives 14, whatever the working copy; clear gives the bare store, and a commit then what it gives there. Stores whose last commit block was damaged,
+tail; commit gives 14, whatever the working copy, and whatever n if it is cut; a clear that is cut leaves all but the n highest blocks of the tail; clear gives the
+bare store, and a commit then what it gives there. Stores whose last commit block was damaged,
 which read as a history that is one commit shorter and a tail. A store of 4,096 blocks and one of 2.
 """
 import itertools, pathlib, random, re, sys
@@ -105,8 +106,8 @@ def broken_rules(engine):
 
 
 def refused(engine, what, store, copy, number):
-    """Every call gives the number, clear and commit too, and changes nothing."""
-    for name, *args in CALLS + [('clear',), ('commit', 9, ALL)]:
+    """Every call gives the number, clear and commit too, cut or not, and changes nothing."""
+    for name, *args in CALLS + [('clear',), ('clear_cut', 0), ('clear_cut', 1), ('commit', 9, ALL), ('commit_cut', 9, ALL, 0), ('commit_cut', 9, ALL, 33)]:
         unchanged(engine, f'{what}: {name}', name, args, store, copy, number)
 
 
@@ -151,6 +152,12 @@ def beside(engine, what, bare, tail, copy, all_calls=True):
                        (' that does not fit', layout.copy_bytes(2, [('normal', 60000, b'')] * 32))):
         for mask in (ALL, 0, 1 << 31):
             unchanged(engine, f'{what}: commit with a copy{why}', 'commit', (9, mask), store, other, 14)
+            for n in (0, 33):
+                unchanged(engine, f'{what}: commit cut at {n} with a copy{why}', 'commit_cut', (9, mask, n), store, other, 14)
+    for n in {0, 1, len(tail) - 1, len(tail), len(tail) + 1, 2 ** 32 - 1}:
+        cleared = bytearray(store)
+        expect(f'{what}: clear cut at {n}', engine.clear_cut(cleared, n), ('stopped',) if n < len(tail) else ('done',))
+        expect_bytes(f'{what}: clear cut at {n}, the store', cleared, layout.tailed(bare, tail[:max(0, len(tail) - n)]))
     after, wanted = (clears(engine, what, store, bare), bytearray(copy)), (bytearray(bare), bytearray(copy))
     expect(f'{what}: commit after clear', engine.call('commit', *after, 9, ALL), engine.call('commit', *wanted, 9, ALL))
     expect_bytes(f'{what}: commit after clear, the store', after[0], wanted[0])

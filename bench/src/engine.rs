@@ -4,6 +4,7 @@
 #[allow(dead_code)]
 mod ffi;
 
+use crate::commit::Cut;
 pub use ffi::{Answer, LogEntry, Place, Standing};
 
 mod c {
@@ -55,6 +56,45 @@ pub fn commit(store: &mut [u8], copy: &mut [u8], stamp: u32, mask: u32) -> Answe
 
 pub fn clear(store: &mut [u8]) -> Answer {
     unsafe { c::sheets_clear(store.as_mut_ptr(), store.len()) }
+}
+
+#[cfg(not(feature = "before-w6"))]
+pub fn commit_cut(store: &mut [u8], copy: &mut [u8], stamp: u32, mask: u32, n: u32) -> Cut {
+    cut(unsafe { c::sheets_commit_cut(store.as_mut_ptr(), store.len(), copy.as_mut_ptr(), copy.len(), stamp, mask, n) })
+}
+
+#[cfg(not(feature = "before-w6"))]
+pub fn clear_cut(store: &mut [u8], n: u32) -> Cut {
+    cut(unsafe { c::sheets_clear_cut(store.as_mut_ptr(), store.len(), n) })
+}
+
+#[cfg(not(feature = "before-w6"))]
+fn cut(answer: ffi::CutAnswer) -> Cut {
+    match (answer.refusal, answer.stopped) {
+        (0, 0) => Ok(Some(answer.value)),
+        (0, _) => Ok(None),
+        (refusal, _) => Err(refusal),
+    }
+}
+
+/// The usual commit, whatever n is.
+#[cfg(feature = "before-w6")]
+pub fn commit_cut(store: &mut [u8], copy: &mut [u8], stamp: u32, mask: u32, _n: u32) -> Cut {
+    usual(commit(store, copy, stamp, mask))
+}
+
+/// The usual clearing, whatever n is.
+#[cfg(feature = "before-w6")]
+pub fn clear_cut(store: &mut [u8], _n: u32) -> Cut {
+    usual(clear(store))
+}
+
+#[cfg(feature = "before-w6")]
+fn usual(answer: Answer) -> Cut {
+    match answer.refusal {
+        0 => Ok(Some(answer.value)),
+        refusal => Err(refusal),
+    }
 }
 
 pub fn update(store: &[u8], copy: &mut [u8], mask: u32, revision: u32) -> Answer {

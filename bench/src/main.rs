@@ -1,5 +1,6 @@
 //! Prints the figures of docs/PERFORMANCE.md as ratios, each pair measured in one run, one after the other in turn, best of many.
 
+mod commit;
 mod engine;
 mod lists;
 mod make;
@@ -11,6 +12,7 @@ mod store;
 mod sums;
 mod svn;
 
+use script::{after, fresh_copies, script, ADD, COPY, COPY_SHEET, DELETE, EDIT, MOVE, UPDATE};
 use std::hint::black_box;
 use std::time::Instant;
 
@@ -163,7 +165,93 @@ fn best_calls(store: &[u8], calls: &[Call]) -> Vec<f64> {
     times
 }
 
+/// The number of a call that must be done: 0, or its refusal, or 99 where it stopped.
+fn done(answer: commit::Cut) -> u32 {
+    answer.map_or_else(|refusal| refusal, |value| if value.is_some() { 0 } else { 99 })
+}
+
+/// A cut commit by the engine and by the Rust version, with the same answer and the same bytes. The store that it leaves.
+fn commit_both(store: &[u8], copy: &[u8], mask: u32, n: u32) -> (commit::Cut, Vec<u8>) {
+    let (mut a, mut ac, mut b, mut bc) = (store.to_vec(), copy.to_vec(), store.to_vec(), copy.to_vec());
+    let answer = engine::commit_cut(&mut a, &mut ac, 7, mask, n);
+    assert_eq!(answer, commit::commit_cut(&mut b, &mut bc, 7, mask, n));
+    assert!(a == b && ac == bc);
+    (answer, a)
+}
+
+/// The same of a cut clearing.
+fn clear_both(store: &[u8], n: u32) -> commit::Cut {
+    let (mut a, mut b) = (store.to_vec(), store.to_vec());
+    let answer = engine::clear_cut(&mut a, n);
+    assert_eq!(answer, commit::clear_cut(&mut b, n));
+    assert!(a == b);
+    answer
+}
+
+/// The engine's cut calls are the Rust version's, of several sheets in every state, with n from none to more than enough, refused and not.
+fn cuts_agree() {
+    let m = make::steady(100, 40, 20, &mut |r| (r % 20) as u8);
+    let (last, newest) = (m.last as u32, m.last as u32 % 20);
+    let copy_at = |revision: u32, calls: &[(u8, u32, u32, &[u8])]| {
+        let all = [(UPDATE, u32::MAX, revision, &[][..])];
+        let list = script(all.iter().chain(calls).map(|&(kind, a, b, bytes)| (kind, 1, a, b, bytes.to_vec())));
+        after(&m.store, &fresh_copies(), &list)[..COPY].to_vec()
+    };
+    let copy = copy_at(
+        last,
+        &[
+            (EDIT, 3, 0, b"edited"),
+            (DELETE, 4, 0, b""),
+            (COPY_SHEET, 5, 20, b""),
+            (COPY_SHEET, 6, 21, b""),
+            (EDIT, 21, 0, b""),
+            (ADD, 22, 0, &[7; 480]),
+            (MOVE, 7, 23, b""),
+        ],
+    );
+    let stale = copy_at(last - 1, &[(EDIT, newest, 0, b"edited"), (ADD, 22, 0, b"")]);
+    let damaged = |bytes: &[u8], at: usize| {
+        let mut bytes = bytes.to_vec();
+        bytes[at] ^= 1;
+        bytes
+    };
+    let (used, empty) = (m.used * store::BLOCK, make::Maker::new(4).store);
+    let mut labels = m.store.clone();
+    labels.copy_within(..store::BLOCK, used);
+    let cases: [(&[u8], &[u8]); 10] = [
+        (&m.store, &copy),
+        (&m.store, &stale),
+        (&m.store[..used + 2 * store::BLOCK], &copy),
+        (&m.store[1..], &copy),
+        (&damaged(&m.store, 600), &copy),
+        (&labels, &copy),
+        (&m.store, &copy[1..]),
+        (&m.store, &damaged(&copy, 600)),
+        (&empty, &copy),
+        (&damaged(&m.store, used), &[]),
+    ];
+    let mut seen = std::collections::BTreeMap::new();
+    for (store, copy) in cases {
+        for mask in [u32::MAX, 0, 1, 1 << newest, 1 << 3, 1 << 4, 1 << 20, 1 << 21, 1 << 22, 1 << 7 | 1 << 23] {
+            for n in (0..7).chain([33, u32::MAX]) {
+                let (answer, left) = commit_both(store, copy, mask, n);
+                *seen.entry(done(answer)).or_insert(0) += 1;
+                for n in (0..7).chain([33, u32::MAX]) {
+                    *seen.entry(done(clear_both(&left, n))).or_insert(0) += 1;
+                }
+            }
+        }
+    }
+    assert!(seen.keys().eq(&[0, 1, 2, 3, 4, 5, 6, 7, 10, 11, 13, 14, 99]));
+    println!("{} cut calls: the Rust version's answers and bytes", seen.values().sum::<i32>());
+}
+
 fn calls() {
+    if cfg!(feature = "before-w6") {
+        println!("a library from before W6: its cut calls are the usual ones");
+    } else {
+        cuts_agree();
+    }
     for blocks in [32, 1000, 4096] {
         let store = make::ordinary(blocks);
         let opened = store::open(&store).expect("the maker lays out a history");
@@ -177,7 +265,7 @@ fn calls() {
         assert_eq!(engine::edit(&store, &mut edited, sheet, b"edited").refusal, 0);
         let bytes = [7; 480];
         let (junk, tail) = ([7; store::BLOCK], used * store::BLOCK..(used + 1) * store::BLOCK);
-        let calls: [Call; 18] = [
+        let calls: [Call; 22] = [
             ("acceptance (read 0 0)", &copy, &|s, _| (engine::read(s, 0, 0).refusal != 8) as u32),
             ("read", &copy, &|s, _| engine::read(s, last, sheet).refusal),
             ("log", &copy, &|s, _| engine::log(s, last, sheet).refusal),
@@ -197,6 +285,16 @@ fn calls() {
                 s[tail.clone()].copy_from_slice(&junk);
                 engine::clear(s).refusal
             }),
+            ("commit cut of one edit, n enough", &edited, &|s, w| done(engine::commit_cut(s, w, 7, all, 33))),
+            ("clear cut of a tail of one block, n enough", &copy, &|s, _| {
+                s[tail.clone()].copy_from_slice(&junk);
+                done(engine::clear_cut(s, 33))
+            }),
+            ("Rust version: commit cut", &edited, &|s, w| done(commit::commit_cut(s, w, 7, all, 33))),
+            ("Rust version: clear cut", &copy, &|s, _| {
+                s[tail.clone()].copy_from_slice(&junk);
+                done(commit::clear_cut(s, 33))
+            }),
             ("Rust version: acceptance", &copy, &|s, _| store::open(s).err().unwrap_or(0)),
             ("Rust version: acceptance and read", &copy, &|s, _| {
                 let o = store::open(s).expect("accepted");
@@ -208,6 +306,9 @@ fn calls() {
         for ((what, _, _), t) in calls.iter().zip(&times) {
             println!("  {what:<44} {t:>10.0} ns   {:>6.2} of acceptance", t / times[0]);
         }
+        let of = |what: &str| times[calls.iter().position(|c| c.0 == what).expect("a line")];
+        let (commit, clear) = ("commit cut of one edit, n enough", "clear cut of a tail of one block, n enough");
+        println!("  engine / Rust version: commit cut {:.2}, clear cut {:.2}", of(commit) / of("Rust version: commit cut"), of(clear) / of("Rust version: clear cut"));
         let (many, i) = (200, sheet as usize);
         let inner = best(
             50,

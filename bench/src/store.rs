@@ -15,12 +15,12 @@ pub fn seal(b: &mut [u8]) {
     b[510..512].copy_from_slice(&(s as u16).to_le_bytes());
 }
 
-fn zero(b: &[u8]) -> bool {
+pub fn zero(b: &[u8]) -> bool {
     b.iter().all(|&x| x == 0)
 }
 
 /// The same of a whole block, with no way out before its end: many bytes at a time.
-fn zero_block(b: &[u8]) -> bool {
+pub fn zero_block(b: &[u8]) -> bool {
     b.iter().fold(0, |all, &x| all | x) == 0
 }
 
@@ -49,7 +49,7 @@ fn shaped(b: &[u8]) -> bool {
 }
 
 /// The bytes of a content block; any other block holds none.
-fn content(b: &[u8]) -> &[u8] {
+pub fn content(b: &[u8]) -> &[u8] {
     if b[0] == 2 {
         &b[16..16 + two(b, 2)]
     } else {
@@ -167,6 +167,12 @@ fn commit(store: &[u8], b: &[u8], first: usize, p: usize, table: &[[u16; 32]]) -
 
 /// Sheet i of tree r in an accepted store: its bytes' place and length, and the last commit up to r that named it.
 pub fn find(store: &[u8], used: usize, r: usize, sheet: usize) -> Option<(usize, usize, usize)> {
+    naming(store, used, r, sheet).filter(|c| c.0 != 0).map(|(at, r)| (at * BLOCK + 16, two(&store[at * BLOCK..], 2), r))
+}
+
+/// The last commit up to r that named sheet i: the block that its change points to, 0 for a delete, and its revision.
+#[inline(always)]
+pub fn naming(store: &[u8], used: usize, r: usize, sheet: usize) -> Option<(usize, usize)> {
     // the first block after commit r: the revisions that blocks carry rise
     let (mut lo, mut hi) = (1, used);
     while lo < hi {
@@ -182,8 +188,7 @@ pub fn find(store: &[u8], used: usize, r: usize, sheet: usize) -> Option<(usize,
         if b[0] == 3 {
             for l in b[16..16 + 8 * two(b, 2)].chunks_exact(8) {
                 if l[0] as usize == sheet {
-                    let at = two(l, 2);
-                    return (at != 0).then(|| (at * BLOCK + 16, two(&store[at * BLOCK..], 2), two(b, 4)));
+                    return Some((two(l, 2), two(b, 4)));
                 }
             }
         }

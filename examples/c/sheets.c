@@ -1,4 +1,5 @@
-/* Two seats at one store: add, commit, update, read back with the revision beside each sheet, two refusals, and the same edit twice; then two calls as one script.
+/* Two seats at one store: add, commit, update, read back with the revision beside each sheet, two refusals, and the same edit twice; then two calls as one script,
+ * and a commit that is cut.
  * Exits 1 at the first answer that is not as expected.
  *
  *     rt staticlib sheetstore
@@ -29,6 +30,15 @@ static void expect(const char *what, sheets_answer got, uint32_t refusal, uint32
         printf("%s: done, %u\n", what, value);
     else
         printf("%s: done\n", what);
+}
+
+/* Ends the program unless a cut call has stopped. */
+static void expect_stopped(const char *what, sheets_cut_answer got) {
+    if (got.refusal != 0 || got.stopped != 1 || got.value != 0) {
+        printf("%s: refusal %u, stopped %u, value %u; expected that it stopped\n", what, got.refusal, got.stopped, got.value);
+        exit(1);
+    }
+    printf("%s: stopped\n", what);
 }
 
 /* Ends the program unless a part of a buffer holds this text, set by this revision; 0 where the text is a seat's own. */
@@ -106,6 +116,18 @@ static void replay(void) {
     expect_text("sheet 5 at revision 3", store, sheets_read(store, sizeof store, 3, 5), "stop after 20 s", 2);
 }
 
+/* A commit that stops after its content block, as if contact were lost there. What it leaves is cleared, and the commit made again. */
+static void cut(void) {
+    expect("seat 1 adds sheet 7", add(pump_room, 7, "flow 12 l/h"), 0, 0);
+    expect_stopped("seat 1 commits, cut after one write", sheets_commit_cut(store, sizeof store, pump_room, sizeof pump_room, 500, ALL_SHEETS, 1));
+    expect_text("sheet 6 at revision 3", store, sheets_read(store, sizeof store, 3, 6), "pH 7.2", 3);
+    expect("seat 1 commits, the store has a tail", commit(pump_room, 500), SHEETS_REFUSED_TAIL, 0);
+    expect_stopped("clear, cut before its one write", sheets_clear_cut(store, sizeof store, 0));
+    expect("clear", sheets_clear(store, sizeof store), 0, 0);
+    expect("seat 1 commits", commit(pump_room, 500), 0, 4);
+    expect_text("sheet 7 at revision 4", store, sheets_read(store, sizeof store, 4, 7), "flow 12 l/h", 4);
+}
+
 int main(void) {
     expect("create the store", sheets_create_store(store, sizeof store), 0, 0);
     expect("create seat 1's copy", sheets_create_copy(pump_room, sizeof pump_room, 1), 0, 0);
@@ -138,5 +160,6 @@ int main(void) {
     }
     printf("log of revision 2: seat %u, stamp %u, action %u\n", entry.seat, entry.stamp, entry.action);
     replay();
+    cut();
     return 0;
 }

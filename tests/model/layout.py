@@ -1,7 +1,8 @@
 """The blocks of document 01 in plain Python, made apart from the engine: bytes of a history and of a working copy, and back.
 
 `store_bytes` lays a history out, in the order of W1 (document 02) or in orders of the caller's; `appended` lays one more commit out behind the blocks of a
-store in any order; `tailed` puts the tail of W5 behind them, `cleared` takes it away; `history_of` and `entries_of` read buffers that are known to be layouts.
+store in any order, or its first blocks, as W6 cuts it; `tailed` puts the tail of W5 behind them, `cleared` takes it away, or a part of it; `history_of` and
+`entries_of` read buffers that are known to be layouts.
 Nothing here checks a layout: accept.py does.
 """
 import functools
@@ -120,9 +121,10 @@ def used_blocks(store):
     return blocks
 
 
-def cleared(store):
-    """A store that is known to be a layout, without its tail."""
-    return filled(len(store) // BLOCK, used_blocks(store))
+def cleared(store, n=33):
+    """A store that is known to be a layout, without its tail, or after n block writes of a clearing: "zero blocks from its highest block down"."""
+    used, blocks = used_blocks(store), filled_blocks(store)
+    return filled(len(store) // BLOCK, blocks[:max(len(used), len(blocks) - n)])
 
 
 def tailed(store, tail):
@@ -152,9 +154,9 @@ def history_of(store):
     return history, len(blocks), len(filled_blocks(store)) - len(blocks)
 
 
-def appended(store, commit):
-    """A store that is known to be a layout without a tail, with one more commit behind its used blocks in the order of W1. What stands there already stays, whatever
-    its order."""
+def writes(store, commit):
+    """What one more commit writes behind the used blocks of a store that is known to be a layout, in the order of W1, which is that of its writes: "Commit writes its
+    content blocks in rising order, then its commit block"."""
     used, trees = used_blocks(store), [{}]
     for b in used:
         if b[0] == 3:
@@ -165,7 +167,13 @@ def appended(store, commit):
                 else:
                     tree[sheet] = (point, held(used[point]))
             trees.append(tree)
-    return filled(len(store) // BLOCK, used + commit_blocks(len(used), commit, trees)[0])
+    return commit_blocks(len(used), commit, trees)[0]
+
+
+def appended(store, commit, n=33):
+    """A store that is known to be a layout without a tail, with one more commit, or the first n blocks of it, behind its used blocks. What stands there already
+    stays, whatever its order."""
+    return filled(len(store) // BLOCK, used_blocks(store) + writes(store, commit)[:n])
 
 
 def entry_block(entry):

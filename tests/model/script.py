@@ -1,7 +1,8 @@
 """Scripts and answers in bytes, in plain Python, made apart from the engine: the records of docs/LAYOUT.md."""
 RECORD = 512
 MOST = 496  # bytes that a call of a script can take
-KINDS = ('add', 'edit', 'delete', 'copy', 'move', 'commit', 'update', 'revert', 'read', 'show', 'status', 'log', 'clear')
+KINDS = ('add', 'edit', 'delete', 'copy', 'move', 'commit', 'update', 'revert', 'read', 'show', 'status', 'log', 'clear', 'commit_cut',
+         'clear_cut')
 
 
 def four(*numbers):
@@ -31,6 +32,8 @@ def answer_record(answer):
         numbers[0] = rest[0]
     elif kind in ('revision', 'status'):
         numbers[1:1 + len(rest)] = rest
+    elif kind == 'stopped':
+        numbers[2] = 1
     elif kind == 'log':
         action, source = rest[3] or (0, None)
         numbers[1:] = *rest[:3], action, *(source or (0, 0))

@@ -1,10 +1,11 @@
-"""A model of document 01, with the requests of document 02 up to W5, in plain data, made apart from the engine: no buffers, no blocks, nothing shared with the
+"""A model of document 01, with the requests of document 02 up to W6, in plain data, made apart from the engine: no buffers, no blocks, nothing shared with the
 crates. W1 moves nothing here: it is the order of the blocks, in layout.py. W2 moves update. W3 moves what read, show and status answer. W4 moves no answer. W5
-adds the number of the tail's blocks, which commit minds and clear makes 0; no call makes a tail, so it is 0 unless the store was found with one.
+adds the number of the tail's blocks, which commit minds and clear makes 0. W6 adds the cut calls, which make a tail and leave one, and what a power cut leaves,
+which is no call.
 
 A tree is a dict from sheet to bytes. A change is (action, bytes, source); a commit is (seat, stamp, {sheet: change}).
 An entry is ('empty',), ('normal', base, bytes), ('added', bytes), ('deleted', base) or ('copied', (sheet, revision), bytes).
-An answer is ('no', number), ('done',), ('revision', R), ('bytes', bytes, W3's number or None for a seat's own bytes),
+An answer is ('no', number), ('done',), ('revision', R), ('stopped',), ('bytes', bytes, W3's number or None for a seat's own bytes),
 ('status', 0 to 8, W3's number) or ('log', seat, stamp, m, change or None), where the change is (action, source or None).
 """
 
@@ -148,25 +149,42 @@ class Machine:
             self.do_delete(entries, seat, sheet)
         return answer
 
-    def do_commit(self, entries, seat, stamp, mask):
+    def asked(self, seat, stamp, mask):
+        """What a commit is to write: its refusal or 0, the commit, and the number of its blocks."""
+        entries = self.seats[seat]
         if self.tail:  # W5: "14, commit on a store that has a tail, checked right after 3"
-            return ('no', 14)
+            return 14, None, 0
         if mask == 0:
-            return ('no', 7)
+            return 7, None, 0
         chosen = [i for i in range(32) if mask >> i & 1 and self.pending(i, entries[i])]
         if not chosen:
-            return ('no', 10)
+            return 10, None, 0
         if any(self.out_of_date(i, entries[i]) for i in chosen):
-            return ('no', 11)
+            return 11, None, 0
         changes = {i: self.change(i, entries[i]) for i in chosen}
         blocks = sum(self.content(c) for c in changes.values()) + 1
         if self.used + blocks > self.blocks:
-            return ('no', 13)
+            return 13, None, 0
+        return 0, (seat, stamp, changes), blocks
+
+    def do_commit(self, entries, seat, stamp, mask):
+        number, commit, blocks = self.asked(seat, stamp, mask)
+        if number:
+            return ('no', number)
         self.used += blocks
-        self.history.append((seat, stamp, changes))
-        for i, (action, data, _) in changes.items():
+        self.history.append(commit)
+        for i, (action, data, _) in commit[2].items():
             entries[i] = EMPTY if action == DELETE else ('normal', self.last(), data)
         return ('revision', self.last())
+
+    def do_commit_cut(self, entries, seat, stamp, mask, n):
+        """W6: "it stops after n block writes, the working copy untouched, and answers that it stopped; with n enough for all its writes it is the usual call". Its
+        content blocks come first, so the n blocks are content, the tail."""
+        number, _, blocks = self.asked(seat, stamp, mask)
+        if number or n >= blocks:
+            return self.do_commit(entries, seat, stamp, mask)
+        self.tail = n
+        return ('stopped',)
 
     def do_update(self, entries, seat, mask, revision):
         if mask == 0 or revision > self.last():
@@ -190,6 +208,13 @@ class Machine:
         """W5: "A new call on the store alone clears the tail .. without a tail it changes nothing". Whose seat it is doesn't matter."""
         self.tail = 0
         return ('done',)
+
+    def do_clear_cut(self, entries, seat, n):
+        """W6, likewise. Clearing writes a zero block for each block of the tail."""
+        if n >= self.tail:
+            return self.do_clear(entries, seat)
+        self.tail -= n
+        return ('stopped',)
 
     def do_read(self, entries, seat, revision, sheet):
         if sheet > 31 or revision > self.last():
@@ -222,3 +247,24 @@ class Machine:
         by, stamp, changes = self.history[revision - 1]
         change = changes.get(sheet)
         return ('log', by, stamp, len(changes), change and (change[0], change[2]))
+
+    # ---- the power
+
+    def writes(self, call):
+        """How many blocks a commit or a clearing writes; 0 for one that is refused or has nothing to write."""
+        name, seat, *args = call
+        return self.tail if name == 'clear' else self.asked(seat, *args)[2]
+
+    def power(self, call, n, how):
+        """W6: the power fails while a commit or a clearing that would be done writes its block number n, counted from 0. "Blocks already written are new, the block
+        being written is old, new or junk with a wrong check, and blocks due later are still old." No working copy changes."""
+        name, seat, *args = call
+        if name == 'clear':  # from the highest block down; new is a zero block
+            self.tail -= n + (how == 'new')
+            return
+        _, commit, blocks = self.asked(seat, *args)
+        if how == 'new' and n + 1 == blocks:  # the commit block is new
+            self.history.append(commit)
+            self.used += blocks
+        else:
+            self.tail = n + (how != 'old')

@@ -91,6 +91,22 @@ pub fn unless_refused(number: u32) -> Result<(), Refusal> {
     (number as usize).checked_sub(1).map_or(Ok(()), |k| Err(REFUSALS[k]))
 }
 
+/// What a call that stops after n block writes answers, where it is not refused.
+#[derive(Clone, Copy, Debug, PartialEq, Eq, Hash)]
+#[must_use = "a call that stopped has not done its work"]
+pub enum Cut<T> {
+    /// It stopped: n writes are made, and at least one is not.
+    Stopped,
+    /// n was enough for all its writes: what the usual call answers.
+    Done(T),
+}
+
+/// A C answer of a cut call as what it answers or a refusal; `done` makes the usual call's answer from its value.
+pub fn cut<T>(answer: ffi::CutAnswer, done: impl FnOnce(u32) -> T) -> Result<Cut<T>, Refusal> {
+    unless_refused(answer.refusal)?;
+    Ok(if answer.stopped == 0 { Cut::Done(done(answer.value)) } else { Cut::Stopped })
+}
+
 /// The status of a sheet's entry, with document 01's numbers.
 #[derive(Clone, Copy, Debug, PartialEq, Eq, Hash)]
 #[repr(u32)]

@@ -7,6 +7,13 @@ pub struct Answer {
 }
 
 #[repr(C)]
+pub struct CutAnswer {
+    pub refusal: u32,
+    pub stopped: u32,
+    pub value: u32,
+}
+
+#[repr(C)]
 pub struct Place {
     pub refusal: u32,
     pub buffer: u32,
@@ -43,6 +50,8 @@ extern "C" {
     pub fn sheets_move(store: *const u8, store_len: usize, copy: *mut u8, copy_len: usize, from: u32, to: u32) -> Answer;
     pub fn sheets_commit(store: *mut u8, store_len: usize, copy: *mut u8, copy_len: usize, stamp: u32, mask: u32) -> Answer;
     pub fn sheets_clear(store: *mut u8, store_len: usize) -> Answer;
+    pub fn sheets_commit_cut(store: *mut u8, store_len: usize, copy: *mut u8, copy_len: usize, stamp: u32, mask: u32, n: u32) -> CutAnswer;
+    pub fn sheets_clear_cut(store: *mut u8, store_len: usize, n: u32) -> CutAnswer;
     pub fn sheets_update(store: *const u8, store_len: usize, copy: *mut u8, copy_len: usize, mask: u32, revision: u32) -> Answer;
     pub fn sheets_revert(store: *const u8, store_len: usize, copy: *mut u8, copy_len: usize, mask: u32) -> Answer;
     pub fn sheets_read(store: *const u8, store_len: usize, revision: u32, sheet: u32) -> Place;

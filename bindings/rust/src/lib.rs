@@ -2,7 +2,8 @@
 //!
 //! A *store* is a buffer of 2 to 4,096 blocks of [`BLOCK`] bytes that holds the revisions of one pool. A *working copy* is a buffer of
 //! [`COPY_LEN`] bytes that belongs to a seat, 1 to 4. Both are lent by the caller. Every call checks all that it is handed, finishes on every
-//! input, and either does its work or answers a [`Refusal`] and leaves every buffer unchanged.
+//! input, and either does its work or answers a [`Refusal`] and leaves every buffer unchanged; only [`commit_cut`] and [`clear_cut`] may stop within their
+//! work, and answer that.
 //!
 //! ```
 //! use sheetstore::{self as sheets, Refusal, ALL, BLOCK, COPY_LEN};
@@ -46,7 +47,7 @@ mod answers;
 mod ffi;
 mod script;
 
-pub use answers::{Action, LogEntry, Refusal, Sheet, Shown, Standing, Status};
+pub use answers::{Action, Cut, LogEntry, Refusal, Sheet, Shown, Standing, Status};
 pub use script::{Answers, Call, Reply, Script, MAX_BYTES, RECORD_LEN};
 
 /// Bytes of a block.
@@ -104,9 +105,9 @@ pub fn move_sheet(store: &[u8], copy: &mut [u8], from: u32, to: u32) -> Result<(
     done(unsafe { ffi::sheets_move(store.as_ptr(), store.len(), copy.as_mut_ptr(), copy.len(), from, to) })
 }
 
-/// The pending entries that the mask chooses become the next revision, which is the answer. The blocks in use stay as they are. Two stores of one size
-/// that began fresh and have no tail are equal byte by byte exactly if their histories are the same. A store that has a tail is refused with
-/// [`Refusal::Tail`]: see [`clear`].
+/// The pending entries that the mask chooses become the next revision, which is the answer. The blocks in use stay as they are; the content blocks are written
+/// in rising order, then the commit block. Two stores of one size that began fresh and have no tail are equal byte by byte exactly if their histories are the
+/// same. A store that has a tail is refused with [`Refusal::Tail`]: see [`clear`].
 pub fn commit(store: &mut [u8], copy: &mut [u8], stamp: u32, mask: u32) -> Result<u32, Refusal> {
     value(unsafe { ffi::sheets_commit(store.as_mut_ptr(), store.len(), copy.as_mut_ptr(), copy.len(), stamp, mask) })
 }
@@ -114,6 +115,10 @@ pub fn commit(store: &mut [u8], copy: &mut [u8], stamp: u32, mask: u32) -> Resul
 /// Clears the tail of a store. Where contact is lost within a commit, the store ends in a tail: up to 32 content blocks of the next revision and at most one
 /// block with a wrong check. Every call but [`commit`] works then, as if the tail were zero blocks. Clear writes zero blocks there, from the highest block
 /// down; without a tail it changes nothing.
+///
+/// Wherever the power fails within a commit or a clear, and the blocks written before are new, the block being written is old, new or has a wrong check, and
+/// those due later are old, the store found is accepted. Its history is the one before or the one with the whole commit, the latter exactly if the commit
+/// block is new. The working copy is outside of this.
 ///
 /// ```
 /// use sheetstore::{self as sheets, Refusal, ALL, BLOCK, COPY_LEN};
@@ -136,6 +141,46 @@ pub fn commit(store: &mut [u8], copy: &mut [u8], stamp: u32, mask: u32) -> Resul
 /// ```
 pub fn clear(store: &mut [u8]) -> Result<(), Refusal> {
     done(unsafe { ffi::sheets_clear(store.as_mut_ptr(), store.len()) })
+}
+
+/// A [`commit`] that stops after n block writes, to try what a cut leaves. It is refused exactly as [`commit`] is, whatever n is, and leaves both buffers
+/// unchanged then.
+///
+/// A commit of k content blocks has k + 1 writes: the content blocks in rising order, then the commit block. With n at most k the answer is
+/// [`Cut::Stopped`]: the first n content blocks stand in the store behind the blocks in use, all other blocks and the working copy are untouched. From n = 1
+/// on that is a tail, so the next commit is refused with [`Refusal::Tail`] until the store is cleared; with n = 0 nothing is written. With n above k it is
+/// [`commit`], the working copy included: the answer is [`Cut::Done`] with the revision.
+///
+/// ```
+/// use sheetstore::{self as sheets, Cut, Refusal, ALL, BLOCK, COPY_LEN};
+///
+/// let mut store = vec![0; 32 * BLOCK];
+/// let mut copy = vec![0; COPY_LEN];
+/// sheets::create_store(&mut store)?;
+/// sheets::create_copy(&mut copy, 2)?;
+/// sheets::add(&store, &mut copy, 5, b"stop after 30 s")?;
+/// sheets::add(&store, &mut copy, 6, b"pH 7.2")?;
+///
+/// assert_eq!(sheets::commit_cut(&mut store, &mut copy, 7, ALL, 1), Ok(Cut::Stopped));
+/// assert_eq!(sheets::read(&store, 1, 5), Err(Refusal::Range));
+/// assert_eq!(sheets::commit_cut(&mut store, &mut copy, 7, ALL, 3), Err(Refusal::Tail));
+///
+/// sheets::clear(&mut store)?;
+/// assert_eq!(sheets::commit_cut(&mut store, &mut copy, 7, ALL, 3), Ok(Cut::Done(1)));
+/// # Ok::<(), Refusal>(())
+/// ```
+pub fn commit_cut(store: &mut [u8], copy: &mut [u8], stamp: u32, mask: u32, n: u32) -> Result<Cut<u32>, Refusal> {
+    let answer = unsafe { ffi::sheets_commit_cut(store.as_mut_ptr(), store.len(), copy.as_mut_ptr(), copy.len(), stamp, mask, n) };
+    answers::cut(answer, |revision| revision)
+}
+
+/// A [`clear`] that stops after n block writes. It is refused exactly as [`clear`] is, whatever n is, and leaves the store unchanged then.
+///
+/// Clear has one write for each block of the tail, from the highest down. With n below their number the answer is [`Cut::Stopped`]: the n highest blocks of
+/// the tail are zero, the others untouched, so that the tail is n blocks shorter. With n equal to their number or above it is [`clear`]: the answer is
+/// [`Cut::Done`], and the store has no tail. Without a tail there is no write, so that is the answer for every n, and the store stays as it is.
+pub fn clear_cut(store: &mut [u8], n: u32) -> Result<Cut<()>, Refusal> {
+    answers::cut(unsafe { ffi::sheets_clear_cut(store.as_mut_ptr(), store.len(), n) }, |_| ())
 }
 
 /// The entries that the mask chooses come to a revision, unless one of them is a conflict. One whose own bytes are the ones that its sheet has there

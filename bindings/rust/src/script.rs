@@ -94,6 +94,20 @@ pub enum Call<'a> {
     },
     /// [`clear`](crate::clear)
     Clear,
+    /// [`commit_cut`](crate::commit_cut)
+    CommitCut {
+        /// The commit's stamp.
+        stamp: u32,
+        /// The chosen sheets.
+        mask: u32,
+        /// The writes after which it stops.
+        n: u32,
+    },
+    /// [`clear_cut`](crate::clear_cut)
+    ClearCut {
+        /// The writes after which it stops.
+        n: u32,
+    },
 }
 
 /// A list of calls by seats 1 to 4, for [`replay`](crate::replay).
@@ -109,22 +123,24 @@ impl Script {
     }
 
     /// Adds a call by a seat at the end. A seat that is not 1 to 4, and more than [`MAX_BYTES`] bytes, are refused with [`Refusal::Range`].
-    /// Read, log and clear need no seat, and any of the four will do.
+    /// Read, log and clear, cut or not, need no seat, and any of the four will do.
     pub fn push(&mut self, seat: u32, call: Call<'_>) -> Result<(), Refusal> {
-        let (kind, first, second, bytes): (u8, u32, u32, &[u8]) = match call {
-            Call::Add { sheet, bytes } => (1, sheet, 0, bytes),
-            Call::Edit { sheet, bytes } => (2, sheet, 0, bytes),
-            Call::Delete { sheet } => (3, sheet, 0, &[]),
-            Call::Copy { from, to } => (4, from, to, &[]),
-            Call::Move { from, to } => (5, from, to, &[]),
-            Call::Commit { stamp, mask } => (6, stamp, mask, &[]),
-            Call::Update { mask, revision } => (7, mask, revision, &[]),
-            Call::Revert { mask } => (8, mask, 0, &[]),
-            Call::Read { revision, sheet } => (9, revision, sheet, &[]),
-            Call::Show { sheet } => (10, sheet, 0, &[]),
-            Call::Status { sheet } => (11, sheet, 0, &[]),
-            Call::Log { revision, sheet } => (12, revision, sheet, &[]),
-            Call::Clear => (13, 0, 0, &[]),
+        let (kind, numbers, bytes): (u8, [u32; 3], &[u8]) = match call {
+            Call::Add { sheet, bytes } => (1, [sheet, 0, 0], bytes),
+            Call::Edit { sheet, bytes } => (2, [sheet, 0, 0], bytes),
+            Call::Delete { sheet } => (3, [sheet, 0, 0], &[]),
+            Call::Copy { from, to } => (4, [from, to, 0], &[]),
+            Call::Move { from, to } => (5, [from, to, 0], &[]),
+            Call::Commit { stamp, mask } => (6, [stamp, mask, 0], &[]),
+            Call::Update { mask, revision } => (7, [mask, revision, 0], &[]),
+            Call::Revert { mask } => (8, [mask, 0, 0], &[]),
+            Call::Read { revision, sheet } => (9, [revision, sheet, 0], &[]),
+            Call::Show { sheet } => (10, [sheet, 0, 0], &[]),
+            Call::Status { sheet } => (11, [sheet, 0, 0], &[]),
+            Call::Log { revision, sheet } => (12, [revision, sheet, 0], &[]),
+            Call::Clear => (13, [0; 3], &[]),
+            Call::CommitCut { stamp, mask, n } => (14, [stamp, mask, n], &[]),
+            Call::ClearCut { n } => (15, [n, 0, 0], &[]),
         };
         if !(1..=4).contains(&seat) || bytes.len() > MAX_BYTES {
             return Err(Refusal::Range);
@@ -133,8 +149,9 @@ impl Script {
         record[0] = kind;
         record[1] = seat as u8;
         record[2..4].copy_from_slice(&(bytes.len() as u16).to_le_bytes());
-        record[4..8].copy_from_slice(&first.to_le_bytes());
-        record[8..12].copy_from_slice(&second.to_le_bytes());
+        for (field, number) in record[4..BYTES_AT].chunks_exact_mut(4).zip(numbers) {
+            field.copy_from_slice(&number.to_le_bytes());
+        }
         record[BYTES_AT..BYTES_AT + bytes.len()].copy_from_slice(bytes);
         self.records.extend_from_slice(&record);
         Ok(())
@@ -161,8 +178,10 @@ impl Script {
 pub enum Reply<'a> {
     /// It did its work, and has nothing to tell.
     Done,
-    /// The revision of a commit.
+    /// The revision of a commit, or of a cut one that had writes enough.
     Revision(u32),
+    /// A cut call stopped after its n writes.
+    Stopped,
     /// The sheet that was read. Its bytes are a part of the answers.
     Read(Sheet<'a>),
     /// What a seat sees. The bytes are a part of the answers.
@@ -205,7 +224,8 @@ fn reply(kind: u8, record: &[u8]) -> Result<Reply<'_>, Refusal> {
     answers::unless_refused(number(0))?;
     let sheet = || Sheet { bytes: &record[ANSWER_BYTES_AT..ANSWER_BYTES_AT + number(28) as usize], revision: number(8) };
     Ok(match kind {
-        6 => Reply::Revision(number(4)),
+        14 | 15 if number(8) != 0 => Reply::Stopped,
+        6 | 14 => Reply::Revision(number(4)),
         9 => Reply::Read(sheet()),
         10 => Reply::Show(answers::shown(sheet())),
         11 => Reply::Status(answers::standing(ffi::Standing { refusal: 0, status: number(4), revision: number(8) })?),

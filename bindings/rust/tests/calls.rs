@@ -1,6 +1,6 @@
 //! Every call, every refusal's number, and that read and show hand back parts of the lent buffers.
 
-use sheetstore::{self as sheets, Action, LogEntry, Refusal, Sheet, Shown, Standing, Status, ALL, BLOCK, COPY_LEN};
+use sheetstore::{self as sheets, Action, Cut, LogEntry, Refusal, Sheet, Shown, Standing, Status, ALL, BLOCK, COPY_LEN};
 
 fn store_of(blocks: usize) -> Vec<u8> {
     let mut store = vec![0x5a; blocks * BLOCK];
@@ -187,6 +187,124 @@ fn clear_leaves_the_store_without_its_tail() {
     }
     assert_eq!(sheets::commit(&mut store, &mut copy, 8, ALL), Ok(2));
     assert_eq!(sheets::read(&store, 2, 5), Ok(Sheet { bytes: b"B", revision: 2 }));
+}
+
+/// Revision 1, a working copy with an edit of sheet 5 and new sheets 6 and 9, and both after the commit of these: three content blocks and the commit block.
+fn before_and_after() -> [(Vec<u8>, Vec<u8>); 2] {
+    let (store, mut copy) = case_input(8);
+    sheets::add(&store, &mut copy, 9, b"C").unwrap();
+    sheets::edit(&store, &mut copy, 5, b"B").unwrap();
+    sheets::add(&store, &mut copy, 6, b"").unwrap();
+    let (mut whole, mut settled) = (store.clone(), copy.clone());
+    assert_eq!(sheets::commit(&mut whole, &mut settled, 8, ALL), Ok(2));
+    [(store, copy), (whole, settled)]
+}
+
+#[test]
+fn a_cut_commit_stops_after_n_writes() {
+    let [(bare, copy), (whole, settled)] = before_and_after();
+    for n in 0..4 {
+        let (mut store, mut seat) = (bare.clone(), copy.clone());
+        assert_eq!(sheets::commit_cut(&mut store, &mut seat, 8, ALL, n), Ok(Cut::Stopped));
+        let at = (3 + n as usize) * BLOCK;
+        assert!(store[..at] == whole[..at] && store[at..] == bare[at..] && seat == copy);
+        assert_eq!(sheets::read(&store, 1, 5), Ok(Sheet { bytes: b"A", revision: 1 }));
+        assert_eq!(sheets::read(&store, 2, 5), Err(Refusal::Range));
+        if n > 0 {
+            assert_eq!(sheets::commit(&mut store, &mut seat, 8, ALL), Err(Refusal::Tail));
+            assert_eq!(sheets::commit_cut(&mut store, &mut seat, 8, ALL, n), Err(Refusal::Tail));
+        }
+        sheets::clear(&mut store).unwrap();
+        assert!(store == bare && seat == copy);
+        assert_eq!(sheets::commit(&mut store, &mut seat, 8, ALL), Ok(2));
+        assert!(store == whole && seat == settled);
+    }
+}
+
+#[test]
+fn a_cut_commit_with_writes_enough_is_a_commit() {
+    let [(bare, copy), (whole, settled)] = before_and_after();
+    for n in [4, 5, 33, 1 << 16, u32::MAX] {
+        let (mut store, mut seat) = (bare.clone(), copy.clone());
+        assert_eq!(sheets::commit_cut(&mut store, &mut seat, 8, ALL, n), Ok(Cut::Done(2)));
+        assert!(store == whole && seat == settled);
+    }
+}
+
+#[test]
+fn a_cut_commit_without_content_has_one_write() {
+    let (mut store, mut copy) = case_input(4);
+    sheets::delete(&store, &mut copy, 5).unwrap();
+    let before = (store.clone(), copy.clone());
+    assert_eq!(sheets::commit_cut(&mut store, &mut copy, 8, ALL, 0), Ok(Cut::Stopped));
+    assert!(before == (store.clone(), copy.clone()));
+    assert_eq!(sheets::commit_cut(&mut store, &mut copy, 8, ALL, 1), Ok(Cut::Done(2)));
+    assert_eq!(sheets::read(&store, 2, 5), Err(Refusal::Missing));
+}
+
+#[test]
+fn a_cut_clear_stops_after_n_writes() {
+    let (bare, _) = case_input(8);
+    let tailed = with_tail(&bare);
+    for n in 0..2 {
+        let mut store = tailed.clone();
+        assert_eq!(sheets::clear_cut(&mut store, n), Ok(Cut::Stopped));
+        let at = (5 - n as usize) * BLOCK;
+        assert!(store[..at] == tailed[..at] && store[at..] == bare[at..]);
+        assert_eq!(sheets::clear_cut(&mut store, 2 - n), Ok(Cut::Done(())));
+        assert!(store == bare);
+    }
+    for n in [2, 3, 33, 1 << 16, u32::MAX] {
+        let mut store = tailed.clone();
+        assert_eq!(sheets::clear_cut(&mut store, n), Ok(Cut::Done(())));
+        assert!(store == bare);
+    }
+}
+
+#[test]
+fn a_cut_clear_without_a_tail_is_done() {
+    let (bare, _) = case_input(8);
+    for n in [0, 1, u32::MAX] {
+        let mut store = bare.clone();
+        assert_eq!(sheets::clear_cut(&mut store, n), Ok(Cut::Done(())));
+        assert!(store == bare);
+    }
+}
+
+#[test]
+fn a_cut_call_is_refused_as_the_usual_one() {
+    let (store, copy) = case_input(4);
+    let refused = |number: u32, mask: u32, change: &dyn Fn(&mut Vec<u8>, &mut Vec<u8>)| {
+        let (mut s, mut c) = (store.clone(), copy.clone());
+        change(&mut s, &mut c);
+        let before = (s.clone(), c.clone());
+        assert_eq!(sheets::commit(&mut s, &mut c, 0, mask).unwrap_err().number(), number);
+        for n in [0, 1, 2, u32::MAX] {
+            assert_eq!(sheets::commit_cut(&mut s, &mut c, 0, mask, n).unwrap_err().number(), number);
+            match number {
+                1..=3 => assert_eq!(sheets::clear_cut(&mut s, n).unwrap_err().number(), number),
+                _ => assert!(sheets::clear_cut(&mut s.clone(), n).is_ok()),
+            }
+        }
+        assert!(before == (s, c), "refusal {number} changed a buffer");
+    };
+    refused(1, ALL, &|s, _| s.truncate(BLOCK));
+    refused(2, ALL, &|s, _| s[600] ^= 1);
+    refused(3, ALL, &|s, _| s.copy_within(..BLOCK, 3 * BLOCK));
+    refused(14, ALL, &|s, c| {
+        s[3 * BLOCK] = 1;
+        c.clear();
+    });
+    refused(4, ALL, &|_, c| c.truncate(BLOCK));
+    refused(5, ALL, &|_, c| c[0] = 5);
+    refused(6, ALL, &|s, _| *s = store_of(4));
+    refused(7, 0, &|s, c| sheets::delete(s, c, 5).unwrap());
+    refused(10, !(1 << 5), &|s, c| sheets::delete(s, c, 5).unwrap());
+    refused(11, ALL, &|s, c| {
+        *c = copy_of(1);
+        sheets::add(s, c, 5, b"other").unwrap();
+    });
+    refused(13, ALL, &|s, c| sheets::edit(s, c, 5, b"B").unwrap());
 }
 
 /// A call on copies of a store and a working copy.

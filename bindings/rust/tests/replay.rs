@@ -1,6 +1,6 @@
 //! Replay: every kind of call and of answer, held to the calls one by one, and the refusals.
 
-use sheetstore::{self as sheets, Action, Call, LogEntry, Refusal, Reply, Script, Sheet, Shown, Standing, Status};
+use sheetstore::{self as sheets, Action, Call, Cut, LogEntry, Refusal, Reply, Script, Sheet, Shown, Standing, Status};
 use sheetstore::{ALL, BLOCK, COPIES_LEN, COPY_LEN, MAX_BYTES, RECORD_LEN};
 
 fn fresh(blocks: usize) -> (Vec<u8>, Vec<u8>) {
@@ -38,7 +38,17 @@ fn alone<'a>(store: &'a mut [u8], copies: &'a mut [u8], seat: u32, call: Call) -
         Call::Status { sheet } => sheets::status(store, copy, sheet).map(Reply::Status),
         Call::Log { revision, sheet } => sheets::log(store, revision, sheet).map(Reply::Log),
         Call::Clear => sheets::clear(store).map(|_| Reply::Done),
+        Call::CommitCut { stamp, mask, n } => cut(sheets::commit_cut(store, copy, stamp, mask, n), Reply::Revision),
+        Call::ClearCut { n } => cut(sheets::clear_cut(store, n), |_| Reply::Done),
     }
+}
+
+/// What a script's cut call answers: that it stopped, or the usual.
+fn cut<'a, T>(answer: Result<Cut<T>, Refusal>, done: impl FnOnce(T) -> Reply<'a>) -> Result<Reply<'a>, Refusal> {
+    answer.map(|answer| match answer {
+        Cut::Stopped => Reply::Stopped,
+        Cut::Done(value) => done(value),
+    })
 }
 
 /// Two seats, every kind of call.
@@ -62,6 +72,18 @@ fn every_kind() -> Vec<(u32, Call<'static>)> {
         (4, Call::Add { sheet: 0, bytes: &[1; MAX_BYTES] }),
         (3, Call::Edit { sheet: 0, bytes: b"" }),
         (3, Call::Clear),
+        (4, Call::Edit { sheet: 6, bytes: b"B" }),
+        (4, Call::CommitCut { stamp: 8, mask: 1 << 6, n: 1 }),
+        (4, Call::Commit { stamp: 8, mask: ALL }),
+        (4, Call::CommitCut { stamp: 8, mask: ALL, n: u32::MAX }),
+        (1, Call::Read { revision: 2, sheet: 6 }),
+        (1, Call::ClearCut { n: 0 }),
+        (1, Call::ClearCut { n: 1 }),
+        (1, Call::ClearCut { n: 0 }),
+        (4, Call::CommitCut { stamp: 8, mask: 1 << 6, n: 0 }),
+        (4, Call::CommitCut { stamp: 8, mask: 1 << 6, n: 2 }),
+        (2, Call::CommitCut { stamp: 8, mask: 0, n: 0 }),
+        (4, Call::Status { sheet: 6 }),
     ]
 }
 
@@ -88,6 +110,13 @@ fn a_script_is_its_calls_one_by_one() {
     assert_eq!(said[15], Err(Refusal::Range));
     assert_eq!(said[16], Err(Refusal::Missing));
     assert_eq!(said[17], Ok(Reply::Done));
+    assert_eq!(said[19], Ok(Reply::Stopped));
+    assert_eq!((said[20], said[21]), (Err(Refusal::Tail), Err(Refusal::Tail)));
+    assert_eq!(said[22], said[10]);
+    assert_eq!((said[23], said[24], said[25]), (Ok(Reply::Stopped), Ok(Reply::Done), Ok(Reply::Done)));
+    assert_eq!((said[26], said[27]), (Ok(Reply::Stopped), Ok(Reply::Revision(3))));
+    assert_eq!(said[28], Err(Refusal::Range));
+    assert_eq!(said[29], Ok(Reply::Status(Standing { status: Status::UpToDate, revision: Some(3) })));
     assert_eq!(answers[script.len() * RECORD_LEN..], [0x5a; 3]);
 }
 
@@ -95,7 +124,7 @@ fn a_script_is_its_calls_one_by_one() {
 fn the_answers_know_their_number() {
     let (script, (mut store, mut copies)) = (script_of(&every_kind()), fresh(16));
     let mut answers = vec![0; script.len() * RECORD_LEN];
-    assert_eq!(sheets::replay(&script, &mut store, &mut copies, &mut answers).unwrap().len(), 18);
+    assert_eq!(sheets::replay(&script, &mut store, &mut copies, &mut answers).unwrap().len(), 30);
     assert_eq!(sheets::replay(&Script::new(), &mut store, &mut copies, &mut []).unwrap().len(), 0);
 }
 
@@ -115,12 +144,76 @@ fn a_script_begins_on_a_tail_and_clears_it() {
 }
 
 #[test]
+fn a_script_cuts_a_commit_and_its_clearing() {
+    let (mut store, mut copies) = fresh(8);
+    let (commit, mask) = (Call::Commit { stamp: 7, mask: ALL }, ALL);
+    let script = script_of(&[
+        (2, Call::Add { sheet: 5, bytes: b"A" }),
+        (2, Call::Add { sheet: 6, bytes: b"B" }),
+        (2, Call::CommitCut { stamp: 7, mask, n: 2 }),
+        (2, commit),
+        (1, Call::ClearCut { n: 1 }),
+        (2, commit),
+        (1, Call::ClearCut { n: 1 }),
+        (2, Call::CommitCut { stamp: 7, mask, n: 3 }),
+    ]);
+    let mut answers = vec![0x5a; script.len() * RECORD_LEN];
+    let said: Vec<_> = sheets::replay(&script, &mut store, &mut copies, &mut answers).unwrap().skip(2).collect();
+    let (stopped, refused) = (Ok(Reply::Stopped), Err(Refusal::Tail));
+    assert_eq!(said, [stopped, refused, stopped, refused, Ok(Reply::Done), Ok(Reply::Revision(1))]);
+    let (mut other, mut copy) = fresh(8);
+    for (sheet, bytes) in [(5, b"A"), (6, b"B")] {
+        sheets::add(&other, &mut copy[COPY_LEN..2 * COPY_LEN], sheet, bytes).unwrap();
+    }
+    sheets::commit(&mut other, &mut copy[COPY_LEN..2 * COPY_LEN], 7, ALL).unwrap();
+    assert!(store == other && copies == copy);
+}
+
+#[test]
+fn a_script_leaves_the_tail_of_a_cut_commit() {
+    let (mut store, mut copies) = fresh(8);
+    let cut = Call::CommitCut { stamp: 7, mask: ALL, n: 1 };
+    let script = script_of(&[(2, Call::Add { sheet: 5, bytes: b"A" }), (2, cut)]);
+    let mut answers = vec![0x5a; 2 * RECORD_LEN];
+    let _ = sheets::replay(&script, &mut store, &mut copies, &mut answers).unwrap();
+    assert_eq!(sheets::commit(&mut store, &mut copies[COPY_LEN..2 * COPY_LEN], 7, ALL), Err(Refusal::Tail));
+    assert_eq!(sheets::clear_cut(&mut store, 0), Ok(Cut::Stopped));
+    assert_eq!(sheets::clear_cut(&mut store, 1), Ok(Cut::Done(())));
+    assert_eq!(sheets::commit(&mut store, &mut copies[COPY_LEN..2 * COPY_LEN], 7, ALL), Ok(1));
+}
+
+/// The bytes of a record that are not zero, with their places.
+fn named(record: &[u8]) -> Vec<(usize, u8)> {
+    record.iter().copied().enumerate().filter(|&(_, byte)| byte != 0).collect()
+}
+
+#[test]
+fn the_records_of_cut_calls_are_as_laid_out() {
+    let (mut store, mut copies) = fresh(8);
+    let script = script_of(&[
+        (2, Call::Add { sheet: 5, bytes: b"A" }),
+        (2, Call::CommitCut { stamp: 0x0201, mask: 0x0400_0020, n: 1 }),
+        (3, Call::ClearCut { n: 0x0300_0001 }),
+        (2, Call::CommitCut { stamp: 7, mask: 1 << 5, n: 0x0400_0000 }),
+    ]);
+    let records: Vec<_> = script.as_bytes().chunks(RECORD_LEN).map(named).collect();
+    assert_eq!(records[1], [(0, 14), (1, 2), (4, 1), (5, 2), (8, 0x20), (11, 4), (12, 1)]);
+    assert_eq!(records[2], [(0, 15), (1, 3), (4, 1), (7, 3)]);
+    assert_eq!(records[3], [(0, 14), (1, 2), (4, 7), (8, 0x20), (15, 4)]);
+    let mut answers = vec![0x5a; script.len() * RECORD_LEN];
+    let _ = sheets::replay(&script, &mut store, &mut copies, &mut answers).unwrap();
+    let answers: Vec<_> = answers.chunks(RECORD_LEN).map(named).collect();
+    assert_eq!(answers, [vec![], vec![(8, 1)], vec![], vec![(4, 1)]]);
+}
+
+#[test]
 fn push_refuses_what_a_record_cannot_hold() {
     let mut script = Script::new();
     assert_eq!(script.push(0, Call::Show { sheet: 1 }), Err(Refusal::Range));
     assert_eq!(script.push(5, Call::Show { sheet: 1 }), Err(Refusal::Range));
     assert_eq!(script.push(257, Call::Show { sheet: 1 }), Err(Refusal::Range));
     assert_eq!(script.push(0, Call::Clear), Err(Refusal::Range));
+    assert_eq!(script.push(5, Call::ClearCut { n: 1 }), Err(Refusal::Range));
     assert_eq!(script.push(1, Call::Add { sheet: 1, bytes: &[0; MAX_BYTES + 1] }), Err(Refusal::Range));
     assert!(script.is_empty());
     assert_eq!(script.push(1, Call::Add { sheet: 1, bytes: &[0; MAX_BYTES] }), Ok(()));

@@ -6,12 +6,13 @@ use mathlib.Core.List.{List, [], _++_, _∷_, map}
 use mathlib.Core.Path.{_∙_, _≡_, ap, ap₂, refl, subst, sym}
 use native.Mathlib.Nat.{add-zero, zero-add}
 use native.Mathlib.Omega.{arith}
-use borrow.Author.Tests.{eq-eqb, le-ltb, lt-ltb, ne-eqb}
-use lib.Dec.{eqb}
-use lib.ListN.{getD, length, length-append, length-map}
+use borrow.Author.Tests.{eq-eqb, le-leb, le-ltb, lt-leb, lt-ltb, ne-eqb}
+use lib.Dec.{eqb, leb}
+use lib.ListN.{getD, length, length-append, length-map, length-take, take}
+use lib.Seq.{take-all}
 use Rattle.block.specs.Write.{written}
 use Rattle.model.specs.Blocks.{Block, Line, bytesAt, commit, content, fieldsOf}
-use Rattle.model.specs.Calls.{sideIn, storeWith}
+use Rattle.model.specs.Calls.{commitWrites, sideIn, storeWith, writtenFrom}
 use Rattle.model.specs.Codec.{joined}
 use Rattle.model.specs.Entry.{Entry, added, changeFor, copied, deleted, empty, modified, normal, pending}
 use Rattle.model.specs.History.{Bytes, Change, History, add, change, copy, delete, isBytes, last, names, nothing}
@@ -38,8 +39,8 @@ use Rattle.laws.proofs.Writing.{Blocks, Sources, content-count, front-blanks, h
 use Rattle.commits.proofs.Entries.{Agrees, bytes-are, row-is, size-at}
 use Rattle.commits.specs.Outcome.{Answered, Asked, RightAt}
 use Rattle.commits.specs.Plan.{Planned, rowOf, rowsFrom}
-use Rattle.commits.specs.declared.Outcome.the-variants.{Done, NoRoom, Nothing}
-use Rattle.writer.proofs.Joins.{Carries, contents-new, written-commit}
+use Rattle.commits.specs.declared.Outcome.the-variants.{Done, NoRoom, Nothing, Stopped}
+use Rattle.writer.proofs.Joins.{Carries, blocks-new, contents-new, written-commit}
 use Rattle.writer.proofs.Lines.{length-from}
 use Rattle.writer.specs.Blocks.{Writable, Wrote, commitBlocks, contentsBy, linesFrom, sheetIn}
 use Rattle.writer.specs.declared.Line.{Line as TheLine}
@@ -212,31 +213,53 @@ module _ (store copy : Bytes) (used revision seat mask : ℕ) (changed places : 
         }
 
     -- THE STATEMENTS: each way that it ends is the machine's answer
-    module _ (stamp : ℕ) where
-      pub says-nothing : m ≡ 0 → Answered store copy store stamp mask Nothing
+    module _ (stamp n : ℕ) where
+      pub says-nothing : m ≡ 0 → Answered store copy store stamp mask n Nothing
       says-nothing z =
           let e : nothingChosen d mask ≡ true = none-chosen h mask 0 (d .entries) ∙ eq-eqb (total count new) 0 (sym m-is ∙ z) in
           record { says = rw e; bytes = rw e }
 
-      pub says-no-room : (m ≡ 0 → ⊥) → length store / 512 ≤ after → Answered store copy store stamp mask NoRoom
+      pub says-no-room : (m ≡ 0 → ⊥) → length store / 512 ≤ after → Answered store copy store stamp mask n NoRoom
       says-no-room ne g =
           let e : noRoom d mask ≡ true = lt-ltb (blockCount store) (usedOf store + blocksFor h new) (omega (arith, after-is)) in
           record { says = rw (something ne, e); bytes = rw (something ne, e) }
 
-      pub says-done : (store′ : Bytes) (r : ℕ) → (m ≡ 0 → ⊥) → after < length store / 512
-          → Wrote store store′ used r (commitBlocks (sheetIn copy) used revision seat stamp (linesFrom ls 0 m)) → Answered store copy store′ stamp mask (Done r)
+      abbrev blocks : List Block
+      blocks = commitBlocks (sheetIn copy) used revision seat stamp (linesFrom ls 0 m)
+
+      -- the blocks are those that the machine's commit writes, k + 1 of them
+      writes-are : blocks ≡ commitWrites store copy stamp mask
+      writes-are =
+          (λ x. commitBlocks (sheetIn copy) (Q .uses x) (Q .next x) (Q .by x) stamp (lines-are x)) ∙ blocks-new bs h (laid .lays) (newCommit d stamp mask) (sheetIn copy) carried
+
+      size : length blocks ≡ blocksFor h new
       unfolding commitBlocks
-      says-done store′ r ne g W =
-          let c = newCommit d stamp mask in
+      size =
           let cs = contentsBy (sheetIn copy) used (linesFrom ls 0 m) in
           let one : List Block = commit revision seat stamp (linesFrom ls 0 m) ∷ [] in
-          let n : r ≡ usedOf store + blocksFor h new =
-          omega (arith, W .count, length-append (map (content revision) cs) one, length-map cs (content revision), contents-count, Q .uses) in
-          let all : length (front bs) + length (blanks bs) ≡ blockCount store = sym (length-append (front bs) (blanks bs)) ∙ ap length (front-blanks bs) ∙ laid .count in
-          let k : length (newContents (front bs) (blanks bs) c) ≡ total (contentOf h) new =
-          length-contents new (map (planOf look (usedOf store) 0 tables) new) (length-map new (planOf look (usedOf store) 0 tables)) ∙ blocks-count in
-          let e : store′ ≡ storeWith store (c ∷ []) =
-          W .bytes
-          ∙ (λ x. written (512 * Q .uses x) (joined fieldsOf (commitBlocks (sheetIn copy) (Q .uses x) (Q .next x) (Q .by x) stamp (lines-are x))) (sym (laid .bytes ∙ bare) x))
-          ∙ written-commit bs h (laid .lays) c (sheetIn copy) carried (omega (arith, all, k, after-is)) in
-          record { says = rw (something ne, roomy g) (ap Done n); bytes = rw (something ne, roomy g) e }
+          omega (arith, length-append (map (content revision) cs) one, length-map cs (content revision), contents-count)
+
+      module _ (store′ : Bytes) (r : ℕ) (ne : m ≡ 0 → ⊥) (g : after < length store / 512) (W : Wrote store store′ used r (take n blocks)) where
+        pub says-stopped : r ≤ after → Answered store copy store′ stamp mask n Stopped
+        says-stopped l =
+            let w : leb (length (commitWrites store copy stamp mask)) n ≡ false =
+            lt-leb (length (commitWrites store copy stamp mask)) n (omega (arith, ap length writes-are, size, W .count, length-take n blocks, after-is, Q .uses)) in
+            let e : store′ ≡ writtenFrom store (take n (commitWrites store copy stamp mask)) =
+            W .bytes ∙ ap₂ (λ (u : ℕ) (x : List Block). written (512 * u) (joined fieldsOf (take n x)) store) (Q .uses) writes-are in
+            record { says = rw (something ne, roomy g, w); bytes = rw (something ne, roomy g, w) e }
+
+        pub says-done : after < r → Answered store copy store′ stamp mask n (Done r)
+        says-done l =
+            let c = newCommit d stamp mask in
+            let many : length blocks ≤ n = omega (arith, size, W .count, length-take n blocks, after-is, Q .uses) in
+            let w : leb (length (commitWrites store copy stamp mask)) n ≡ true = le-leb (length (commitWrites store copy stamp mask)) n (omega (arith, ap length writes-are, many)) in
+            let whole : take n blocks ≡ blocks = take-all n blocks many in
+            let u : r ≡ usedOf store + blocksFor h new = omega (arith, W .count, ap length whole, size, Q .uses) in
+            let all : length (front bs) + length (blanks bs) ≡ blockCount store = sym (length-append (front bs) (blanks bs)) ∙ ap length (front-blanks bs) ∙ laid .count in
+            let k : length (newContents (front bs) (blanks bs) c) ≡ total (contentOf h) new =
+            length-contents new (map (planOf look (usedOf store) 0 tables) new) (length-map new (planOf look (usedOf store) 0 tables)) ∙ blocks-count in
+            let e : store′ ≡ storeWith store (c ∷ []) =
+            W .bytes ∙ ap (λ (x : List Block). written (512 * used) (joined fieldsOf x) store) whole
+            ∙ (λ x. written (512 * Q .uses x) (joined fieldsOf (commitBlocks (sheetIn copy) (Q .uses x) (Q .next x) (Q .by x) stamp (lines-are x))) (sym (laid .bytes ∙ bare) x))
+            ∙ written-commit bs h (laid .lays) c (sheetIn copy) carried (omega (arith, all, k, after-is)) in
+            record { says = rw (something ne, roomy g, w) (ap Done u); bytes = rw (something ne, roomy g, w) e }

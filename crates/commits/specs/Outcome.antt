@@ -1,21 +1,22 @@
--- What the inner commit asks and what it answers, in the machine's words: refusals 10 and 13, or the store with the new commit. Refusals 1 to 7 and 11 are the caller's.
+-- What the inner commit asks and what it answers, in the machine's words: refusals 10 and 13, the store with the new commit, or with the first n blocks of it. Refusals 1 to 7
+-- and 11 are the caller's.
 -- Assumes nothing.
 use Prim.Native.Nat.{_+_, _<_, suc, ℕ}
-use mathlib.Core.Bool.{cond, not, true}
+use mathlib.Core.Bool.{Bool, cond, not, true}
 use mathlib.Core.List.{List, [], _∷_}
 use mathlib.Core.Path.{_≡_}
-use lib.Dec.{eqb}
-use lib.ListN.{getD, length}
-use Rattle.model.specs.Calls.{sideIn, storeWith}
+use lib.Dec.{eqb, leb}
+use lib.ListN.{getD, length, take}
+use Rattle.model.specs.Calls.{commitWrites, sideIn, storeWith, writtenFrom}
 use Rattle.model.specs.Entry.{Entry, added, copied, deleted, empty, modified, normal}
 use Rattle.model.specs.History.{Bytes, isBytes, last, sheet}
-use Rattle.model.specs.Machine.{Side, blocksFor, chosen, commitChanges, entry, newCommit}
+use Rattle.model.specs.Machine.{blocksFor, chosen, commitChanges, entry, newCommit}
 use Rattle.model.specs.Refusals.{noRoom, nothingChosen}
 use Rattle.model.specs.Shows.{Accepted}
 use Rattle.model.specs.Store.{blockUsed, storeHistory, tailOf, usedOf}
 use Rattle.model.specs.WorkCopy.{seatOf}
 use Rattle.commits.specs.declared.Outcome.{Outcome}
-use Rattle.commits.specs.declared.Outcome.the-variants.{Done, NoRoom, Nothing}
+use Rattle.commits.specs.declared.Outcome.the-variants.{Done, NoRoom, Nothing, Stopped}
 
 -- what the flag and the place of sheet i's entry have to say: whether a normal entry is modified, and whether "copies whose bytes differ from the source's at the source
 -- revision" is of this one; the block that the source uses
@@ -41,17 +42,26 @@ pub record Asked (store copy : Bytes) (used revision seat mask : ℕ) (changed p
   pub by : seat ≡ seatOf copy
   pub right : RightFlags store copy mask changed places
 
--- refusal 10, refusal 13, or U + k + 1
-abbrev pub outcomeIn : Side → ℕ → Outcome
-outcomeIn d mask = cond (nothingChosen d mask) Nothing (cond (noRoom d mask) NoRoom (Done (d .used + blocksFor (d .history) (commitChanges (d .history) mask (d .entries)))))
+-- n is enough for all its writes
+abbrev pub enough : Bytes → Bytes → ℕ → ℕ → ℕ → Bool
+enough store copy stamp mask n = leb (length (commitWrites store copy stamp mask)) n
+
+-- refusal 10, refusal 13, U + k + 1, or stopped
+abbrev pub outcomeIn : Bytes → Bytes → ℕ → ℕ → ℕ → Outcome
+outcomeIn store copy stamp mask n =
+    let d = sideIn store copy in
+    cond (nothingChosen d mask) Nothing
+    (cond (noRoom d mask) NoRoom (cond (enough store copy stamp mask n) (Done (d .used + blocksFor (d .history) (commitChanges (d .history) mask (d .entries)))) Stopped))
 
 -- the store's bytes then
-abbrev pub storeIn : Bytes → Bytes → ℕ → ℕ → Bytes
-storeIn store copy stamp mask =
+abbrev pub storeIn : Bytes → Bytes → ℕ → ℕ → ℕ → Bytes
+storeIn store copy stamp mask n =
     let d = sideIn store copy in
-    cond (nothingChosen d mask) store (cond (noRoom d mask) store (storeWith store (newCommit d stamp mask ∷ [])))
+    cond (nothingChosen d mask) store
+    (cond (noRoom d mask) store
+    (cond (enough store copy stamp mask n) (storeWith store (newCommit d stamp mask ∷ [])) (writtenFrom store (take n (commitWrites store copy stamp mask)))))
 
 -- the answer, and what is left in the store
-pub record Answered (store copy store′ : Bytes) (stamp mask : ℕ) (r : Outcome) : Type 0 where
-  pub says : r ≡ outcomeIn (sideIn store copy) mask
-  pub bytes : store′ ≡ storeIn store copy stamp mask
+pub record Answered (store copy store′ : Bytes) (stamp mask n : ℕ) (r : Outcome) : Type 0 where
+  pub says : r ≡ outcomeIn store copy stamp mask n
+  pub bytes : store′ ≡ storeIn store copy stamp mask n

@@ -123,17 +123,19 @@ fn make_plan<'a>(
     }
 }
 
-// The blocks in use afterwards; refusal 10; refusal 13.
+// The blocks in use afterwards; refusal 10; refusal 13; that it stopped.
 pub enum Outcome {
     Done(usize),
     Nothing,
     NoRoom,
+    Stopped,
 }
 
-// Commits the chosen entries: the number of blocks in use then, or why not. `changed` is 0 for an entry whose bytes are its base's or its source's; `places` has the
-// block that a copied entry's source uses.
+// Commits the chosen entries and stops after n block writes: the number of blocks in use then, or why not. `changed` is 0 for an entry whose bytes are its base's or its
+// source's; `places` has the block that a copied entry's source uses.
 pub fn commit_chosen<'a>(
     store: &mut [u8],
+    n: usize,
     used: usize,
     revision: usize,
     seat: u8,
@@ -144,7 +146,7 @@ pub fn commit_chosen<'a>(
     places: &'a [u16],
 ) -> Outcome
     requires { ⌜ Asked (now store) (now copy) used revision seat mask (now changed) (now places) ⌝ }
-    ensures { λ r. ⌜ Answered (now (store .entry)) (now (copy .entry)) (now (store .exit)) stamp mask r ⌝ }
+    ensures { λ r. ⌜ Answered (now (store .entry)) (now (copy .entry)) (now (store .exit)) stamp mask n r ⌝ }
 {
     let plan = make_plan(mask, used, copy, changed, places);
     let m = plan.count;
@@ -156,6 +158,9 @@ pub fn commit_chosen<'a>(
         return Outcome::NoRoom;
     }
     let lines = plan.lines;
-    let end = writer::write_commit(store, used, revision, seat, stamp, lines, m, copy);
+    let end = writer::write_some(store, n, used, revision, seat, stamp, lines, m, copy);
+    if end <= next {
+        return Outcome::Stopped;
+    }
     Outcome::Done(end)
 }

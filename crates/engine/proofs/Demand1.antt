@@ -10,9 +10,9 @@ use mathlib.Core.Option.{Option, none, some}
 use mathlib.Core.Path.{_∙_, _≡_, ap, refl, subst, sym}
 use denote.Ref.{RefT, now}
 use Rattle.model.specs.Calls.{Out, Place as Spot, bothConditions, call, conditionsIn, createCopy, createStore, foundPlace, heard, out, placeBy, readPlace, storeConditions, storeOnlyConditions, storeRefusal, storeSide}
-use Rattle.model.specs.Demand1.{Cleared, Demand1, DoneOn}
+use Rattle.model.specs.Demand1.{Cleared, ClearedSome, Demand1, DoneOn}
 use Rattle.model.specs.History.{Bytes}
-use Rattle.model.specs.Machine.{Add, Answer, Call, Clears, Commits, Copy, Delete, Edit, Log, Move, Read, Revert, Show, Status, Update, doing, refused}
+use Rattle.model.specs.Machine.{Add, Answer, Call, Clears, ClearsCut, Commits, CommitsCut, Copy, Delete, Edit, Log, Move, Read, Revert, Show, Status, Update, doing, refused}
 use Rattle.model.specs.Refusals.{Clear, First}
 use Rattle.model.specs.Run.{Typed}
 use Rattle.model.specs.Types.{answerOf, createdAs, placeOf}
@@ -73,8 +73,9 @@ pub record Answers (store copy : Bytes) (c : Call) (o : Out) : Type 0 where
   -- read and log, which take the store
   pub reads : (R i : ℕ) → c ≡ Read R i → Clear (storeOnlyConditions store c) → o ≡ out (doing (storeSide store) c .0) store copy
   pub logs : (R i : ℕ) → c ≡ Log R i → Clear (storeOnlyConditions store c) → o ≡ out (doing (storeSide store) c .0) store copy
-  -- clearing, which takes the store
+  -- clearing, which takes the store; stopped after n writes or not
   pub clears : c ≡ Clears → Clear (storeConditions store) → Cleared store (record { says = o .says; buffer = o .store })
+  pub clears-cut : (n : ℕ) → c ≡ ClearsCut n → Clear (storeConditions store) → ClearedSome store n (record { says = o .says; buffer = o .store })
 
 -- and of the answer to a request with these bytes beside it. "Create takes the buffer it makes": the other stays
 abbrev pub AnswersTo : Bytes → Bytes → Request → Bytes → Out → Type 0
@@ -90,7 +91,7 @@ pub record CodeDemand1 : Type 2 where
   pub create-store-meets : (M : Type 1) → create-store-statement.statement M
   pub create-copy-meets : (M : Type 1) → create-copy-statement.statement M
   pub call-meets : (M : Type 1) → call-statement.statement M
-  -- add, edit, delete, copy, move, commit, update, revert, clear
+  -- add, edit, delete, copy, move, commit, update, revert, clear, and the cut calls
   pub changes : {store copy store′ copy′ : Bytes} {c : Call} {r : TheAnswer} → Made store copy c r store′ copy′ → Answers store copy c (out (answerOf r) store′ copy′)
   -- status, show, log and read, which change no buffer
   pub looks : {store copy : Bytes} {c : Call} {a : Answer} → Looked store copy c a → Answers store copy c (out a store copy)
@@ -119,6 +120,7 @@ answers store copy c e =
       reads = λ R i q. subst (λ (k : Call). Clear (storeOnlyConditions store k) → call store copy k ≡ out (doing (storeSide store) k .0) store copy) (sym q) (D .reads R i);
       logs = λ R i q. subst (λ (k : Call). Clear (storeOnlyConditions store k) → call store copy k ≡ out (doing (storeSide store) k .0) store copy) (sym q) (D .logs R i);
       clears = λ q. subst (λ (k : Call). Clear (storeConditions store) → Cleared store (record { says = call store copy k .says; buffer = call store copy k .store })) (sym q) (D .clears);
+      clears-cut = λ n q. subst (λ (k : Call). Clear (storeConditions store) → ClearedSome store n (record { says = call store copy k .says; buffer = call store copy k .store })) (sym q) (D .clears-cut n);
     })
 
 pub looked-is : {store copy : Bytes} {c : Call} {a : Answer} → Looked store copy c a → out a store copy ≡ call store copy c
@@ -158,6 +160,8 @@ called-is store copy (Show i) = refl
 called-is store copy (Status i) = refl
 called-is store copy (Log R i) = refl
 called-is store copy Clears = refl
+called-is store copy (CommitsCut stamp mask n) = refl
+called-is store copy (ClearsCut n) = refl
 
 told-is : (store copy : Bytes) (r : Reply) → told store copy r ≡ hears store copy (tellsOf r)
 told-is store copy (Said a) = refl

@@ -1,4 +1,4 @@
--- Demand 3 for the code: any list of add, edit, delete, copy, move, commit, update, revert and clear calls by four seats, refused ones included, from a fresh store of 2 to 4,096
+-- Demand 3 for the code: any list of add, edit, delete, copy, move, commit, update, revert and clear calls by four seats, refused and cut ones included, from a fresh store of 2 to 4,096
 -- blocks and four fresh copies, each call given the store and its seat's copy as the calls before left them. What whoever calls a function learns is taken from that function's own contract
 -- (`Learnt`), of which no text is repeated here, and that the code meets the contracts (`met`) stands in the same record.
 -- Assumes nothing.
@@ -11,7 +11,7 @@ use lib.Seq.{take-length}
 use Rattle.model.specs.Calls.{Buffers, Created, Out, afterTurn, answersOn, call, freshBuffers, heard, out, readCall, readPlace, runOn}
 use Rattle.model.specs.Demand3.{Brings, Finds, NothingPending, WholeList, copyIn}
 use Rattle.model.specs.History.{Bytes, History, namer, sheet}
-use Rattle.model.specs.Machine.{Add, Call, Clears, Commits, Copy, Delete, Edit, Move, Revert, Update, asBytes, fresh}
+use Rattle.model.specs.Machine.{Add, Call, Clears, ClearsCut, Commits, CommitsCut, Copy, Delete, Edit, Move, Revert, Update, asBytes, fresh}
 use Rattle.model.specs.Run.{AllValid, Turn, accepted, answers, run}
 use Rattle.model.specs.Shows.{Shows}
 use Rattle.model.specs.Types.{answerOf, placeOf}
@@ -46,6 +46,12 @@ use Rattle.engine.proofs.revert.Statement as revert-statement
 use Rattle.engine.proofs.clear.Met as clear-met
 use Rattle.engine.proofs.clear.Reads as clear-reads
 use Rattle.engine.proofs.clear.Statement as clear-statement
+use Rattle.engine.proofs.commit_cut.Met as commit-cut-met
+use Rattle.engine.proofs.commit_cut.Reads as commit-cut-reads
+use Rattle.engine.proofs.commit_cut.Statement as commit-cut-statement
+use Rattle.engine.proofs.clear_cut.Met as clear-cut-met
+use Rattle.engine.proofs.clear_cut.Reads as clear-cut-reads
+use Rattle.engine.proofs.clear_cut.Statement as clear-cut-statement
 use Rattle.engine.proofs.read_place.Met as read-met
 use Rattle.engine.proofs.read_place.Reads as read-reads
 use Rattle.engine.proofs.read_place.Statement as read-statement
@@ -71,6 +77,10 @@ pub data Made : Bytes → Bytes → Call → TheAnswer → Bytes → Bytes → T
   reverts : {mask : ℕ} {r : TheAnswer} (κs : Lfts 2) (x y x′ y′ : RefT Bytes)
       → revert-reads.Learnt κs (x, (y, (mask, tt))) r (x′, (y′, (mask, tt))) → Made (now x) (now y) (Revert mask) r (now x) (now y′)
   clears : {r : TheAnswer} {copy : Bytes} (κs : Lfts 1) (x x′ : RefT Bytes) → clear-reads.Learnt κs (x, tt) r (x′, tt) → Made (now x) copy Clears r (now x′) copy
+  commits-cut : {stamp mask n : ℕ} {r : TheAnswer} (κs : Lfts 2) (x y x′ y′ : RefT Bytes)
+      → commit-cut-reads.Learnt κs (x, (y, (stamp, (mask, (n, tt))))) r (x′, (y′, (stamp, (mask, (n, tt))))) → Made (now x) (now y) (CommitsCut stamp mask n) r (now x′) (now y′)
+  clears-cut : {n : ℕ} {r : TheAnswer} {copy : Bytes} (κs : Lfts 1) (x x′ : RefT Bytes)
+      → clear-cut-reads.Learnt κs (x, (n, tt)) r (x′, (n, tt)) → Made (now x) copy (ClearsCut n) r (now x′) copy
 
 -- a list of calls, their answers, and the buffers afterwards. Every beginning of a trace is a trace, so what is said of a trace is said after every call
 pub data Trace : Buffers → List Turn → List TheAnswer → Buffers → Type 0 where
@@ -109,6 +119,8 @@ pub record CodeDemand3 : Type 2 where
   pub update-meets : (M : Type 1) → update-statement.statement M
   pub revert-meets : (M : Type 1) → revert-statement.statement M
   pub clear-meets : (M : Type 1) → clear-statement.statement M
+  pub commit-cut-meets : (M : Type 1) → commit-cut-statement.statement M
+  pub clear-cut-meets : (M : Type 1) → clear-cut-statement.statement M
   pub read-meets : (M : Type 1) → read-statement.statement M
   pub whole : (N : ℕ) (ts : List Turn) → 2 ≤ N → N ≤ 4_096 → AllValid ts → (rs : List TheAnswer) (b : Buffers) → Trace (freshBuffers N) ts rs b
       → CodeWholeList N ts rs b (accepted (fresh N) ts)
@@ -126,6 +138,8 @@ made-is (commits κs x y x′ y′ e) = e
 made-is (updates κs x y x′ y′ e) = e
 made-is (reverts κs x y x′ y′ e) = e
 made-is (clears {copy = copy} κs x x′ e) = ap (λ (o : Created). out (o .says) (o .buffer) copy) e
+made-is (commits-cut κs x y x′ y′ e) = e
+made-is (clears-cut {copy = copy} κs x x′ e) = ap (λ (o : Created). out (o .says) (o .buffer) copy) e
 
 -- a trace is the calls on buffers
 pub traced : {b b′ : Buffers} {ts : List Turn} {rs : List TheAnswer} → Trace b ts rs b′ → (map answerOf rs ≡ answersOn b ts) × (b′ ≡ runOn b ts)
@@ -157,6 +171,8 @@ code-demand-three = record {
   update-meets = λ M. update-met.met;
   revert-meets = λ M. revert-met.met;
   clear-meets = λ M. clear-met.met;
+  commit-cut-meets = λ M. commit-cut-met.met;
+  clear-cut-meets = λ M. clear-cut-met.met;
   read-meets = λ M. read-met.met;
   whole = λ N ts lo hi v rs b T.
       let q = traced T in

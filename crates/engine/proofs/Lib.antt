@@ -1,4 +1,4 @@
--- The laws that the proofs of `engine` and of its callers cite, the demands, and W1, W2 and W3 of document 02 (Ordered, SameEdit, SetBy).
+-- The laws that the proofs of `engine` and of its callers cite, the demands, and the requests of document 02: W1 (Ordered), W2 (SameEdit), W3 (SetBy), W5 (HalfWritten), W6 (Cut, PowerCuts).
 pub mod Fresh
 pub mod Parts
 pub mod Demand2
@@ -8,3 +8,5 @@ pub mod Ordered
 pub mod SameEdit
 pub mod SetBy
 pub mod HalfWritten
+pub mod Cut
+pub mod PowerCuts

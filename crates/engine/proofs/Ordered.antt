@@ -14,7 +14,7 @@ use Rattle.model.specs.Order.{continued, storeBytes}
 use Rattle.model.specs.Ordered.{Appends}
 use Rattle.model.specs.Run.{AllValid, Turn, accepted}
 use Rattle.model.specs.Shows.{AllAccepted, stateIn}
-use Rattle.model.specs.Store.{bareOf}
+use Rattle.model.specs.Store.{bareOf, tailOf}
 use Rattle.model.specs.Types.{answerOf}
 use Rattle.model.specs.declared.Answer.{Answer as TheAnswer}
 use Rattle.laws.proofs.Ordered.{ordered}
@@ -42,12 +42,12 @@ pub record CodeOrdered : Type 2 where
   -- and calls go on with them: behind the blocks in use, which stay, the commits that were accepted, in this order; a tail that is left counts as zero blocks
   pub lists : {b b′ : Buffers} {ts : List Turn} {rs : List TheAnswer} → AllAccepted b → AllValid ts → Trace b ts rs b′
       → bareOf (b′ .store) ≡ continued (b .store) (accepted (stateIn b) ts)
-  -- from a fresh store of N blocks and four fresh copies: the bytes follow from N and the accepted commits alone
+  -- from a fresh store of N blocks and four fresh copies, where the calls leave no tail: the bytes follow from N and the accepted commits alone
   pub bytes : (N : ℕ) → 2 ≤ N → N ≤ 4_096 → {b : Buffers} {ts : List Turn} {rs : List TheAnswer} → AllValid ts → Trace (freshBuffers N) ts rs b
-      → b .store ≡ storeBytes N (accepted (fresh N) ts)
+      → tailOf (b .store) ≡ 0 → b .store ≡ storeBytes N (accepted (fresh N) ts)
   -- "Two fresh stores of one size whose calls make the same history then hold equal bytes."
   pub equal : (N : ℕ) → 2 ≤ N → N ≤ 4_096 → {b c : Buffers} {ts us : List Turn} {rs qs : List TheAnswer} → AllValid ts → AllValid us
-      → Trace (freshBuffers N) ts rs b → Trace (freshBuffers N) us qs c → accepted (fresh N) ts ≡ accepted (fresh N) us → b .store ≡ c .store
+      → Trace (freshBuffers N) ts rs b → Trace (freshBuffers N) us qs c → tailOf (b .store) ≡ 0 → tailOf (c .store) ≡ 0 → accepted (fresh N) ts ≡ accepted (fresh N) us → b .store ≡ c .store
   -- and back: equal bytes are the same history
   pub back : (N : ℕ) → 2 ≤ N → N ≤ 4_096 → {b c : Buffers} {ts us : List Turn} {rs qs : List TheAnswer} → AllValid ts → AllValid us
       → Trace (freshBuffers N) ts rs b → Trace (freshBuffers N) us qs c → b .store ≡ c .store → accepted (fresh N) ts ≡ accepted (fresh N) us
@@ -68,7 +68,7 @@ code-ordered = record {
   opened = λ κs x x′ r l h L. code-demand-two .opens κs x x′ r l .accepted .1 (h, L);
   found = λ store h L R i le small. read-is store h R i (ordered .another store h L .found R i le small);
   lists = λ {b} {b′} {ts} A v T. ap bareOf (left T) ∙ ordered .lists b ts A v;
-  bytes = λ N lo hi {b} {ts} v T. left T ∙ ordered .bytes N ts lo hi v;
-  equal = λ N lo hi {b} {c} {ts} {us} v w T U e. left T ∙ ordered .equal N ts us lo hi v w e ∙ sym (left U);
+  bytes = λ N lo hi {b} {ts} v T z. left T ∙ ordered .bytes N ts lo hi v (ap tailOf (sym (left T)) ∙ z);
+  equal = λ N lo hi {b} {c} {ts} {us} v w T U y z e. left T ∙ ordered .equal N ts us lo hi v w (ap tailOf (sym (left T)) ∙ y) (ap tailOf (sym (left U)) ∙ z) e ∙ sym (left U);
   back = λ N lo hi {b} {c} {ts} {us} v w T U e. ordered .back N ts us lo hi v w (sym (left T) ∙ e ∙ left U);
 }

@@ -2,7 +2,7 @@
 -- Assumes nothing.
 use Rattle.model.specs.Calls.{Created, Out, Place, call, createCopy, createStore, readPlace, showPlace}
 use Rattle.model.specs.History.{Bytes}
-use Rattle.model.specs.Machine.{Add, Answer, Call, Clears, Commits, Copy, Delete, Edit, Log, Move, Read, Revert, Show, Status, Update}
+use Rattle.model.specs.Machine.{Add, Answer, Call, Clears, ClearsCut, Commits, CommitsCut, Copy, Delete, Edit, Log, Move, Read, Revert, Show, Status, Update}
 use Rattle.model.specs.Types.{answerOf, placeOf}
 use Rattle.inner.specs.Performs.{callOf}
 use Rattle.inner.specs.declared.Reply.{Reply}
@@ -46,6 +46,8 @@ called store copy (Show i) = answered (stands (showPlace store copy i)) store co
 called store copy (Status i) = outSaid (call store copy (Status i))
 called store copy (Log R i) = outSaid (call store copy (Log R i))
 called store copy Clears = outSaid (call store copy Clears)
+called store copy (CommitsCut stamp mask n) = outSaid (call store copy (CommitsCut stamp mask n))
+called store copy (ClearsCut n) = outSaid (call store copy (ClearsCut n))
 
 -- "Create takes the buffer it makes": the other stays
 abbrev pub storeSaid : Created → Bytes → Answered

@@ -1,8 +1,9 @@
-// Every call of document 01 and the clearing of a tail, total: each checks what it is handed in the document's order, and either does its work or answers the refusal and leaves every buffer unchanged.
+// Every call of document 01, the clearing of a tail, and commit and clearing that stop after n block writes, total: each checks what it is handed in the document's order, and
+// either does its work or answers the refusal and leaves every buffer unchanged.
 // Each promise is one equation with the call's meaning in crates/model/specs/Calls.antt. `call` takes any of them as one request (specs/Request.antt).
 ghost use mathlib.Core.List.{[]};
 ghost use mathlib.Core.Path.{_≡_};
-ghost use Rattle.model.specs.Calls.{addCall, clearCall, commitCall, copyCall, createCopy, createStore, deleteCall, editCall, logCall, moveCall, out, partOf, readPlace, revertCall, showPlace, sizeCondition, statusCall, updateCall};
+ghost use Rattle.model.specs.Calls.{addCall, clearCall, clearCutCall, commitCall, commitCutCall, copyCall, createCopy, createStore, deleteCall, editCall, logCall, moveCall, out, partOf, readPlace, revertCall, showPlace, sizeCondition, statusCall, updateCall};
 ghost use Rattle.model.specs.Types.{actionNumber, answerOf, createdAs, numberOf, sourceRevision, sourceSheet};
 ghost use Rattle.engine.specs.Part.{PartAt, ShownAt};
 ghost use Rattle.engine.specs.Request.{answered, called, requested, tellsOf};
@@ -199,10 +200,17 @@ pub fn move_sheet(store: &[u8], copy: &mut [u8], from: u32, to: u32) -> Answer
 
 // ---- the store and the working copy
 
-// Commit on a store that is open: a tail refuses it before the working copy is looked at.
-fn commit_open(store: &mut [u8], copy: &mut [u8], h: Header, stamp: u32, mask: u32) -> Answer
+// Commit on a store that is open, stopped after n block writes: a tail refuses it before the working copy is looked at.
+fn commit_open(
+    store: &mut [u8],
+    copy: &mut [u8],
+    h: Header,
+    stamp: u32,
+    mask: u32,
+    n: usize,
+) -> Answer
     requires { ⌜ openOf (now store) ≡ Open h ⌝ }
-    ensures { λ r. ⌜ out (answerOf r) (now (store .exit)) (now (copy .exit)) ≡ commitCall (now (store .entry)) (now (copy .entry)) stamp mask ⌝ }
+    ensures { λ r. ⌜ out (answerOf r) (now (store .exit)) (now (copy .exit)) ≡ commitCutCall (now (store .entry)) (now (copy .entry)) stamp mask n ⌝ }
 {
     if tails::has(store, h.used) {
         return Answer::Refused(Refusal::Tail);
@@ -211,21 +219,28 @@ fn commit_open(store: &mut [u8], copy: &mut [u8], h: Header, stamp: u32, mask: u
     match c {
         Checked::Refused(k) => Answer::Refused(k),
         Checked::Ready(v) => {
-            let filed = filing::commit(store, copy, v, stamp, mask);
+            let filed = filing::commit(store, copy, v, stamp, mask, n);
             filed.answer
         }
     }
 }
 
-// Commit: the chosen pending entries become the next revision.
-pub fn commit(store: &mut [u8], copy: &mut [u8], stamp: u32, mask: u32) -> Answer
-    ensures { λ r. ⌜ out (answerOf r) (now (store .exit)) (now (copy .exit)) ≡ commitCall (now (store .entry)) (now (copy .entry)) stamp mask ⌝ }
+// Commit, stopped after n block writes with the copy untouched; with n enough for all its writes it is the usual commit.
+pub fn commit_cut(store: &mut [u8], copy: &mut [u8], stamp: u32, mask: u32, n: u32) -> Answer
+    ensures { λ r. ⌜ out (answerOf r) (now (store .exit)) (now (copy .exit)) ≡ commitCutCall (now (store .entry)) (now (copy .entry)) stamp mask n ⌝ }
 {
     let opened = store::open(store);
     match opened {
         Opened::Refused(k) => Answer::Refused(k),
-        Opened::Open(h) => commit_open(store, copy, h, stamp, mask),
+        Opened::Open(h) => commit_open(store, copy, h, stamp, mask, n as usize),
     }
+}
+
+// Commit: the chosen pending entries become the next revision. It has 33 block writes at most.
+pub fn commit(store: &mut [u8], copy: &mut [u8], stamp: u32, mask: u32) -> Answer
+    ensures { λ r. ⌜ out (answerOf r) (now (store .exit)) (now (copy .exit)) ≡ commitCall (now (store .entry)) (now (copy .entry)) stamp mask ⌝ }
+{
+    commit_cut(store, copy, stamp, mask, 33)
 }
 
 // Update: the chosen entries come to a revision, unless one is a conflict.
@@ -252,15 +267,22 @@ pub fn revert(store: &[u8], copy: &mut [u8], mask: u32) -> Answer
 
 // ---- the tail
 
-// Clear: the blocks of the tail become zero blocks, from the highest down.
-pub fn clear(store: &mut [u8]) -> Answer
-    ensures { λ r. ⌜ createdAs r (now (store .exit)) ≡ clearCall (now (store .entry)) ⌝ }
+// Clear, stopped after n block writes; with n enough for all its writes it is the usual clear.
+pub fn clear_cut(store: &mut [u8], n: u32) -> Answer
+    ensures { λ r. ⌜ createdAs r (now (store .exit)) ≡ clearCutCall (now (store .entry)) n ⌝ }
 {
     let opened = store::open(store);
     match opened {
         Opened::Refused(k) => Answer::Refused(k),
-        Opened::Open(h) => inner::clear_in(store, h),
+        Opened::Open(h) => inner::clear_in(store, h, n as usize),
     }
+}
+
+// Clear: the blocks of the tail, 33 at most, become zero blocks, from the highest down.
+pub fn clear(store: &mut [u8]) -> Answer
+    ensures { λ r. ⌜ createdAs r (now (store .exit)) ≡ clearCall (now (store .entry)) ⌝ }
+{
+    clear_cut(store, 33)
 }
 
 // ---- any call
@@ -272,7 +294,7 @@ pub enum Request {
     Call(Call),
 }
 
-// One of the thirteen calls, by its own function.
+// One of the fifteen calls, by its own function.
 fn call_named(store: &mut [u8], copy: &mut [u8], named: Call, bytes: &[u8]) -> Reply
     ensures { λ r. ⌜ (answered (tellsOf r) (now (store .exit)) (now (copy .exit)) ≡ called (now (store .entry)) (now (copy .entry)) (callOf named (now (bytes .entry)))) × Within (now (store .exit)) (now (copy .exit)) r ⌝ }
 {
@@ -290,6 +312,8 @@ fn call_named(store: &mut [u8], copy: &mut [u8], named: Call, bytes: &[u8]) -> R
         Call::Status(sheet) => Reply::Said(status(store, copy, sheet)),
         Call::Log(revision, sheet) => Reply::Said(log(store, revision, sheet)),
         Call::Clear => Reply::Said(clear(store)),
+        Call::CommitCut(stamp, mask, n) => Reply::Said(commit_cut(store, copy, stamp, mask, n)),
+        Call::ClearCut(n) => Reply::Said(clear_cut(store, n)),
     }
 }
 

@@ -157,13 +157,18 @@ module _ (store copy : Bytes) where
         copyTaken = none-holds (copyConditions store copy) (ap not (eq-eqb (length copy) 16_896 (a .size)), (ap not (is-true (copyOk copy) (a .ok)), (ap not (f .fits), tt)));
       }
 
--- where no line from 1 to 6 holds, nor 14, the inner call is the call
-pub inner-call : (store copy : Bytes) (v : View) → Fitting store copy v → (c : Call) → Clear (tailConditions (sideIn store copy) c) → innerOut store copy c ≡ changeCall store copy c
-unfolding innerOut changeCall refusalOf
-inner-call store copy v F c t =
+-- where no line from 1 to 6 holds, nor 14, only the machine's other conditions are left
+pub inner-refusal : (store copy : Bytes) (v : View) → Fitting store copy v → (c : Call) → Clear (tailConditions (sideIn store copy) c)
+    → firstOf (conditions (sideIn store copy) c) ≡ refusalOf store copy c
+unfolding refusalOf
+inner-refusal store copy v F c t =
     let A = fitting-accepted store copy v F in
     let ts = tailConditions (sideIn store copy) c in
     let cs = conditions (sideIn store copy) c in
-    ap (λ (o : Option ℕ). changeBy o store copy c)
-    (sym (clear-first (storeConditions store) (ts ++ (copyConditions store copy ++ cs)) (clear (storeConditions store) (A .storeTaken))
-    ∙ clear-first ts (copyConditions store copy ++ cs) t ∙ clear-first (copyConditions store copy) cs (clear (copyConditions store copy) (A .copyTaken))))
+    sym (clear-first (storeConditions store) (ts ++ (copyConditions store copy ++ cs)) (clear (storeConditions store) (A .storeTaken))
+    ∙ clear-first ts (copyConditions store copy ++ cs) t ∙ clear-first (copyConditions store copy) cs (clear (copyConditions store copy) (A .copyTaken)))
+
+-- so that the inner call is the call
+pub inner-call : (store copy : Bytes) (v : View) → Fitting store copy v → (c : Call) → Clear (tailConditions (sideIn store copy) c) → innerOut store copy c ≡ changeCall store copy c
+unfolding innerOut changeCall
+inner-call store copy v F c t = ap (λ (o : Option ℕ). changeBy o store copy c) (inner-refusal store copy v F c t)

@@ -7,31 +7,32 @@ use mathlib.Core.Option.{Option, none, some}
 use mathlib.Core.Path.{_∙_, _≡_, ap, refl, subst, sym}
 use native.Mathlib.Omega.{arith}
 use borrow.Author.Tests.{eq-eqb, ne-eqb}
-use Rattle.model.specs.Calls.{changeBy, sideIn}
+use lib.ListN.{take}
+use Rattle.model.specs.Calls.{changeBy, commitWrites, out, sideIn, stoppedBy, writtenFrom}
 use Rattle.model.specs.Entry.{Entry, added, copied, deleted, empty, modified, normal, pending}
 use Rattle.model.specs.History.{Bytes, History, change, last, namedAfter, names, nothing}
-use Rattle.model.specs.Machine.{Commits, Side, chosen, committed}
-use Rattle.model.specs.Refusals.{conditions, firstOf, nothingChosen, outOfDate, someStale}
+use Rattle.model.specs.Machine.{Commits, CommitsCut, Side, chosen, committed, stopped}
+use Rattle.model.specs.Refusals.{conditions, firstOf, noRoom, nothingChosen, outOfDate, someStale}
 use Rattle.model.specs.Rows.{some-row}
 use Rattle.model.specs.Shows.{Accepted}
 use Rattle.model.specs.Store.{storeHistory, tailOf}
 use Rattle.model.specs.Types.{numberOf}
 use Rattle.model.specs.WorkCopy.{HoldsCopy, copyBytes, entriesOf, seatOf}
-use Rattle.model.specs.declared.Answer.the-variants.{Refused, Revision as TheRevision}
+use Rattle.model.specs.declared.Answer.the-variants.{Refused, Revision as TheRevision, Stopped as TheStopped}
 use Rattle.model.specs.declared.Refusal.{Refusal}
 use Rattle.model.specs.declared.Refusal.the-variants.{NoRoom as NoSpace, NothingPending, OutOfDate, Range}
 use Rattle.laws.proofs.Accepted.{accepted-kept, accepted-seen, both}
 use Rattle.laws.proofs.Trees.{used-low}
-use Rattle.commits.proofs.Answers.{told-done, told-no-room, told-nothing}
-use Rattle.commits.specs.Outcome.{Answered, Asked, RightFlags}
+use Rattle.commits.proofs.Answers.{told-done, told-no-room, told-nothing, told-stopped}
+use Rattle.commits.specs.Outcome.{Answered, Asked, RightFlags, enough}
 use Rattle.commits.specs.declared.Outcome.{Outcome}
-use Rattle.commits.specs.declared.Outcome.the-variants.{Done, NoRoom, Nothing}
+use Rattle.commits.specs.declared.Outcome.the-variants.{Done, NoRoom, Nothing, Stopped}
 use Rattle.entries.proofs.Checking.{fitting-accepted}
-use Rattle.entries.specs.View.{Fitting}
+use Rattle.entries.specs.View.{Fitting, outAs}
 use Rattle.entries.specs.declared.View.{View}
 use Rattle.filing.proofs.Settling.{settled-committed}
+use Rattle.filing.specs.Filed.{innerCut}
 use Rattle.filing.specs.Inner.{Settling, settledRows}
-use Rattle.entries.specs.View.{innerOut, outAs}
 use Rattle.workcopy.proofs.Entries.{held}
 
 -- a row that passes one test passes another
@@ -64,43 +65,56 @@ stale-chosen d mask e =
     by true x y s e = s e
     by false x y s e = e
 
-module _ (store copy : Bytes) (stamp mask : ℕ) where
+module _ (store copy : Bytes) (stamp mask n : ℕ) where
   abbrev d : Side
   d = sideIn store copy
 
-  refused-is : (r : Refusal) → firstOf (conditions d (Commits stamp mask)) ≡ some (numberOf r) → outAs (Refused r) store copy ≡ innerOut store copy (Commits stamp mask)
-  unfolding innerOut
-  refused-is r e = sym (ap (λ (o : Option ℕ). changeBy o store copy (Commits stamp mask)) e)
+  refused-is : (r : Refusal) → firstOf (conditions d (CommitsCut stamp mask n)) ≡ some (numberOf r) → outAs (Refused r) store copy ≡ innerCut store copy stamp mask n
+  unfolding innerCut
+  refused-is r e = sym (ap (λ (o : Option ℕ). stoppedBy o store copy stamp mask n) e)
 
-  pub commit-none : mask ≡ 0 → outAs (Refused Range) store copy ≡ innerOut store copy (Commits stamp mask)
+  pub commit-none : mask ≡ 0 → outAs (Refused Range) store copy ≡ innerCut store copy stamp mask n
   commit-none z = refused-is Range (rw (eq-eqb mask 0 z))
 
-  module _ (n : mask ≡ 0 → ⊥) where
-    pub commit-nothing : {o : Outcome} {store′ : Bytes} → o ≡ Nothing → Answered store copy store′ stamp mask o
-        → outAs (Refused NothingPending) store′ copy ≡ innerOut store copy (Commits stamp mask)
+  module _ (some-mask : mask ≡ 0 → ⊥) where
+    pub commit-nothing : {o : Outcome} {store′ : Bytes} → o ≡ Nothing → Answered store copy store′ stamp mask n o
+        → outAs (Refused NothingPending) store′ copy ≡ innerCut store copy stamp mask n
     commit-nothing {store′ = store′} e A =
-        let t = told-nothing store copy store′ stamp mask (subst (Answered store copy store′ stamp mask) e A) in
-        ap (λ (x : Bytes). outAs (Refused NothingPending) x copy) (t .1) ∙ refused-is NothingPending (rw (ne-eqb mask 0 n, t .0))
+        let t = told-nothing store copy store′ stamp mask n (subst (Answered store copy store′ stamp mask n) e A) in
+        ap (λ (x : Bytes). outAs (Refused NothingPending) x copy) (t .1) ∙ refused-is NothingPending (rw (ne-eqb mask 0 some-mask, t .0))
 
     module _ {b : Bool} (q : b ≡ someStale d mask) where
-      pub commit-stale : b ≡ true → outAs (Refused OutOfDate) store copy ≡ innerOut store copy (Commits stamp mask)
+      pub commit-stale : b ≡ true → outAs (Refused OutOfDate) store copy ≡ innerCut store copy stamp mask n
       commit-stale z =
           let s : someStale d mask ≡ true = sym q ∙ z in
-          refused-is OutOfDate (rw (ne-eqb mask 0 n, stale-chosen d mask s, s))
+          refused-is OutOfDate (rw (ne-eqb mask 0 some-mask, stale-chosen d mask s, s))
 
-      module _ (z : b ≡ false) {o : Outcome} {store′ : Bytes} (A : Answered store copy store′ stamp mask o) where
-        pub commit-no-room : o ≡ NoRoom → outAs (Refused NoSpace) store′ copy ≡ innerOut store copy (Commits stamp mask)
+      module _ (z : b ≡ false) {o : Outcome} {store′ : Bytes} (A : Answered store copy store′ stamp mask n o) where
+        pub commit-no-room : o ≡ NoRoom → outAs (Refused NoSpace) store′ copy ≡ innerCut store copy stamp mask n
         commit-no-room e =
-            let t = told-no-room store copy store′ stamp mask (subst (Answered store copy store′ stamp mask) e A) in
-            ap (λ (x : Bytes). outAs (Refused NoSpace) x copy) (t .2) ∙ refused-is NoSpace (rw (ne-eqb mask 0 n, t .0, sym q ∙ z, t .1))
+            let t = told-no-room store copy store′ stamp mask n (subst (Answered store copy store′ stamp mask n) e A) in
+            ap (λ (x : Bytes). outAs (Refused NoSpace) x copy) (t .2) ∙ refused-is NoSpace (rw (ne-eqb mask 0 some-mask, t .0, sym q ∙ z, t .1))
+
+        -- no line refuses it: n is enough, or it stops
+        by-enough : {c : Bool} → nothingChosen d mask ≡ false → noRoom d mask ≡ false → enough store copy stamp mask n ≡ c
+            → cond c (changeBy none store copy (Commits stamp mask)) (out stopped (writtenFrom store (take n (commitWrites store copy stamp mask))) copy)
+            ≡ innerCut store copy stamp mask n
+        unfolding innerCut
+        by-enough x y w =
+            let k : firstOf (conditions d (CommitsCut stamp mask n)) ≡ none = rw (ne-eqb mask 0 some-mask, x, sym q ∙ z, y) in
+            sym (ap (λ (o : Option ℕ). stoppedBy o store copy stamp mask n) k
+            ∙ ap (λ (c : Bool). cond c (changeBy none store copy (Commits stamp mask)) (out stopped (writtenFrom store (take n (commitWrites store copy stamp mask))) copy)) w)
+
+        pub commit-stopped : o ≡ Stopped → outAs TheStopped store′ copy ≡ innerCut store copy stamp mask n
+        commit-stopped e =
+            let t = told-stopped store copy store′ stamp mask n (subst (Answered store copy store′ stamp mask n) e A) in
+            ap (λ (x : Bytes). out stopped x copy) (t .3) ∙ by-enough (t .0) (t .1) (t .2)
 
         pub commit-done : {u R : ℕ} {copy′ : Bytes} → o ≡ Done u → R ≡ suc (last (storeHistory store))
-            → copy′ ≡ copyBytes (seatOf copy) (committed (storeHistory store) mask (entriesOf copy)) → outAs (TheRevision R) store′ copy′ ≡ innerOut store copy (Commits stamp mask)
-        unfolding innerOut
+            → copy′ ≡ copyBytes (seatOf copy) (committed (storeHistory store) mask (entriesOf copy)) → outAs (TheRevision R) store′ copy′ ≡ innerCut store copy stamp mask n
         commit-done {u} e r w =
-            let t = told-done store copy store′ stamp mask u (subst (Answered store copy store′ stamp mask) e A) in
-            let k : firstOf (conditions d (Commits stamp mask)) ≡ none = rw (ne-eqb mask 0 n, t .0, sym q ∙ z, t .1) in
-            (λ i. outAs (TheRevision (r i)) (t .3 i) (w i)) ∙ sym (ap (λ (o : Option ℕ). changeBy o store copy (Commits stamp mask)) k)
+            let t = told-done store copy store′ stamp mask n u (subst (Answered store copy store′ stamp mask n) e A) in
+            (λ i. outAs (TheRevision (r i)) (t .4 i) (w i)) ∙ by-enough (t .0) (t .1) (t .2)
 
 -- ---- what the steps ask for
 

@@ -1,5 +1,5 @@
-// The commit of a working copy that fits an accepted store: which chosen entries are changed and where a copy's source stands, refusals 7, 10, 11 and 13, the writing, and
-// what it leaves in the copy. The chosen sheets are visited by trailing zeros.
+// The commit of a working copy that fits an accepted store: which chosen entries are changed and where a copy's source stands, refusals 7, 10, 11 and 13, the writing,
+// whole or stopped after n block writes, and what it leaves in the copy. The chosen sheets are visited by trailing zeros.
 use commits::Outcome;
 use entries::View;
 use model::Answer;
@@ -11,7 +11,7 @@ ghost use mathlib.Core.Path.{_≡_};
 ghost use lib.ListN.{length, set};
 ghost use Rattle.commits.specs.Outcome.{RightFlags};
 ghost use Rattle.entries.specs.View.{Fitting, entryIn};
-ghost use Rattle.filing.specs.Filed.{FiledAs, unfiledAs};
+ghost use Rattle.filing.specs.Filed.{FiledAs, innerCut, unfiledAs};
 ghost use Rattle.filing.specs.Inner.{Settling, altered, settledAs, settledRows, settledState, sourceBlock, staysAs};
 ghost use Rattle.model.specs.Calls.{sideIn};
 ghost use Rattle.model.specs.Refusals.{someStale};
@@ -176,10 +176,10 @@ fn unfiled(v: View, k: Refusal) -> Filed
     }
 }
 
-// Commits the chosen entries into a store without a tail, or the refusal.
-pub fn commit(store: &mut [u8], copy: &mut [u8], v: View, stamp: u32, mask: u32) -> Filed
+// Commits the chosen entries into a store without a tail and stops after n block writes, or the refusal.
+pub fn commit(store: &mut [u8], copy: &mut [u8], v: View, stamp: u32, mask: u32, n: usize) -> Filed
     requires { ⌜ Fitting (now store) (now copy) v × (tailOf (now store) ≡ 0) ⌝ }
-    ensures { λ r. ⌜ FiledAs (now (store .entry)) (now (copy .entry)) stamp mask r (now (store .exit)) (now (copy .exit)) ⌝ }
+    ensures { λ r. ⌜ FiledAs (innerCut (now (store .entry)) (now (copy .entry)) stamp mask n) r (now (store .exit)) (now (copy .exit)) ⌝ }
 {
     if mask == 0 {
         return unfiled(v, Refusal::Range);
@@ -195,6 +195,7 @@ pub fn commit(store: &mut [u8], copy: &mut [u8], v: View, stamp: u32, mask: u32)
     let seat = v.seat as u8;
     let o = commits::commit_chosen(
         store,
+        n,
         v.used,
         next,
         seat,
@@ -207,6 +208,11 @@ pub fn commit(store: &mut [u8], copy: &mut [u8], v: View, stamp: u32, mask: u32)
     match o {
         Outcome::Nothing => unfiled(v, Refusal::NothingPending),
         Outcome::NoRoom => unfiled(v, Refusal::NoRoom),
+        Outcome::Stopped => Filed {
+            answer: Answer::Stopped,
+            used: v.used,
+            last: v.last,
+        },
         Outcome::Done(used) => {
             let revision = next as u32;
             settle(copy, mask, revision, &changed);

@@ -17,11 +17,12 @@ fn say_count(n: usize) {
     io::print_decimal(1, n as u64);
 }
 
-// What a call answered: `done`, or the number of the refusal.
+// What a call answered: `done`, `stopped`, or the number of the refusal.
 fn say_answer(answer: Answer) {
     match answer {
         Answer::Refused(k) => say_number(engine::number(k)),
         Answer::Done => say(b"done"),
+        Answer::Stopped => say(b"stopped"),
         Answer::Revision(_) => say(b"done"),
         Answer::Status(_) => say(b"done"),
         Answer::Logged(_) => say(b"done"),

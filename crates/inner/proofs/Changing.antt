@@ -6,9 +6,9 @@ use mathlib.Core.List.{_++_, append-assoc}
 use mathlib.Core.Option.{Option, none, some}
 use mathlib.Core.Path.{_∙_, _≡_, ap, sym}
 use lib.Dec.{eqb}
-use Rattle.model.specs.Calls.{Out, changeBy, changeCall, copyConditions, out, refusalOf, sideIn, storeConditions}
+use Rattle.model.specs.Calls.{Out, changeBy, changeCall, commitCutCall, copyConditions, out, refusalOf, sideIn, stoppedBy, storeConditions}
 use Rattle.model.specs.History.{Bytes}
-use Rattle.model.specs.Machine.{Call, Commits, refused}
+use Rattle.model.specs.Machine.{Call, CommitsCut, refused}
 use Rattle.model.specs.Refusals.{Clear, conditions, firstOf, tailConditions}
 use Rattle.model.specs.Store.{tailOf}
 use Rattle.model.specs.Types.{answerOf, numberOf}
@@ -43,20 +43,36 @@ module _ (store copy : Bytes) where
   refused-call k c t e = refused-by k c (check-refusal k c t e)
 
   -- a line on the store comes first
-  pub refused-store : (k : Refusal) (c : Call) → openOf store ≡ NotOpen k → out (refused (numberOf k)) store copy ≡ changeCall store copy c
+  store-refusal : (k : Refusal) (c : Call) → openOf store ≡ NotOpen k → refusalOf store copy c ≡ some (numberOf k)
   unfolding refusalOf
-  refused-store k c e =
-      refused-by k c (first-stays (storeConditions store) (tailConditions (sideIn store copy) c ++ (copyConditions store copy ++ conditions (sideIn store copy) c)) (numberOf k) (open-refused store k e))
+  store-refusal k c e =
+      first-stays (storeConditions store) (tailConditions (sideIn store copy) c ++ (copyConditions store copy ++ conditions (sideIn store copy) c)) (numberOf k) (open-refused store k e)
+
+  pub refused-store : (k : Refusal) (c : Call) → openOf store ≡ NotOpen k → out (refused (numberOf k)) store copy ≡ changeCall store copy c
+  refused-store k c e = refused-by k c (store-refusal k c e)
 
   -- then 14
-  pub commit-tailed : (stamp mask : ℕ) → firstOf (storeConditions store) ≡ none → not (eqb (tailOf store) 0) ≡ true
-      → out (refused 14) store copy ≡ changeCall store copy (Commits stamp mask)
+  tail-refusal : (stamp mask n : ℕ) → firstOf (storeConditions store) ≡ none → not (eqb (tailOf store) 0) ≡ true → refusalOf store copy (CommitsCut stamp mask n) ≡ some 14
   unfolding refusalOf
-  commit-tailed stamp mask e t =
-      let cs = tailConditions (sideIn store copy) (Commits stamp mask) ++ (copyConditions store copy ++ conditions (sideIn store copy) (Commits stamp mask)) in
-      refused-by Tail (Commits stamp mask)
-      (clear-first (storeConditions store) cs (clear (storeConditions store) e)
-      ∙ ap (λ (b : Bool). cond b (some 14) (firstOf (copyConditions store copy ++ conditions (sideIn store copy) (Commits stamp mask)))) t)
+  tail-refusal stamp mask n e t =
+      let cs = copyConditions store copy ++ conditions (sideIn store copy) (CommitsCut stamp mask n) in
+      clear-first (storeConditions store) (tailConditions (sideIn store copy) (CommitsCut stamp mask n) ++ cs) (clear (storeConditions store) e)
+      ∙ ap (λ (b : Bool). cond b (some 14) (firstOf cs)) t
+
+  -- the commit that stops after n writes is refused as the commit is
+  cut-by : (k : Refusal) (stamp mask n : ℕ) → refusalOf store copy (CommitsCut stamp mask n) ≡ some (numberOf k) → out (refused (numberOf k)) store copy ≡ commitCutCall store copy stamp mask n
+  unfolding commitCutCall
+  cut-by k stamp mask n e = sym (ap (λ (o : Option ℕ). stoppedBy o store copy stamp mask n) e)
+
+  pub cut-store : (k : Refusal) (stamp mask n : ℕ) → openOf store ≡ NotOpen k → out (refused (numberOf k)) store copy ≡ commitCutCall store copy stamp mask n
+  cut-store k stamp mask n e = cut-by k stamp mask n (store-refusal k (CommitsCut stamp mask n) e)
+
+  pub cut-tailed : (stamp mask n : ℕ) → firstOf (storeConditions store) ≡ none → not (eqb (tailOf store) 0) ≡ true → out (refused 14) store copy ≡ commitCutCall store copy stamp mask n
+  cut-tailed stamp mask n e t = cut-by Tail stamp mask n (tail-refusal stamp mask n e t)
+
+  pub cut-refused : (k : Refusal) (stamp mask n : ℕ) → Clear (tailConditions (sideIn store copy) (CommitsCut stamp mask n)) → checkOf store copy ≡ Refused k
+      → out (refused (numberOf k)) store copy ≡ commitCutCall store copy stamp mask n
+  cut-refused k stamp mask n t e = cut-by k stamp mask n (check-refusal k (CommitsCut stamp mask n) t e)
 
   pub local-fits : (v : View) → Fitting store copy v → (c : Call) (a : Answer) (copy′ : Bytes) → Local c → record { says = answerOf a; copy = copy′ } ≡ localOut copy c
       → out (answerOf a) store copy′ ≡ changeCall store copy c

@@ -6,7 +6,7 @@ ghost use lib.Dec.{ltb};
 ghost use Rattle.entries.specs.View.{Fitting};
 ghost use Rattle.inner.specs.Performs.{CommitsAs, Performs, callOf, stayAs};
 ghost use Rattle.inner.specs.Place.{Located, hasOwn};
-ghost use Rattle.model.specs.Calls.{clearCall, logCall, readPlace, showPlace, statusCall};
+ghost use Rattle.model.specs.Calls.{clearCutCall, commitCutCall, logCall, readPlace, showPlace, statusCall};
 ghost use Rattle.model.specs.Refusals.{noSheet};
 ghost use Rattle.model.specs.Types.{answerOf, createdAs};
 ghost use Rattle.store.specs.Opened.{openOf};
@@ -20,7 +20,8 @@ use model::Span;
 use model::State;
 use store::Header;
 
-// A call with its numbers: the sheet (add and edit take bytes beside it), from and to, stamp and mask, mask and revision, revision and sheet.
+// A call with its numbers: the sheet (add and edit take bytes beside it), from and to, stamp and mask, mask and revision, revision and sheet; of a cut call also the number of
+// block writes that it stops after.
 pub enum Call {
     Add(u32),
     Edit(u32),
@@ -35,6 +36,8 @@ pub enum Call {
     Status(u32),
     Log(u32, u32),
     Clear,
+    CommitCut(u32, u32, u32),
+    ClearCut(u32),
 }
 
 // What a call answers; read and show, where the bytes stand.
@@ -135,21 +138,23 @@ pub fn status_in<'a>(store: &'a [u8], copy: &'a [u8], v: View, sheet: u32) -> An
 
 // ---- the tail
 
-// Clears the tail of a store that is open.
-pub fn clear_in(store: &mut [u8], h: Header) -> Answer
+// Clears the tail of a store that is open, and stops after n block writes.
+pub fn clear_in(store: &mut [u8], h: Header, n: usize) -> Answer
     requires { ⌜ openOf (now store) ≡ Open h ⌝ }
-    ensures { λ r. ⌜ createdAs r (now (store .exit)) ≡ clearCall (now (store .entry)) ⌝ }
+    ensures { λ r. ⌜ createdAs r (now (store .exit)) ≡ clearCutCall (now (store .entry)) n ⌝ }
 {
     let used = h.used;
     let count = tails::count(store, used);
-    tails::clear(store, used, count, count);
-    Answer::Done
+    if tails::clear(store, used, count, n) {
+        return Answer::Done;
+    }
+    Answer::Stopped
 }
 
-// Commit on a store and a working copy that fits it: refused where the store has a tail.
-fn commit_in(store: &mut [u8], copy: &mut [u8], v: View, stamp: u32, mask: u32) -> Filed
+// Commit on a store and a working copy that fits it, stopped after n block writes: refused where the store has a tail.
+fn commit_in(store: &mut [u8], copy: &mut [u8], v: View, stamp: u32, mask: u32, n: usize) -> Filed
     requires { ⌜ Fitting (now store) (now copy) v ⌝ }
-    ensures { λ r. ⌜ CommitsAs (now (store .entry)) (now (copy .entry)) stamp mask r (now (store .exit)) (now (copy .exit)) ⌝ }
+    ensures { λ r. ⌜ CommitsAs (commitCutCall (now (store .entry)) (now (copy .entry)) stamp mask n) r (now (store .exit)) (now (copy .exit)) ⌝ }
 {
     if tails::has(store, v.used) {
         return Filed {
@@ -158,7 +163,7 @@ fn commit_in(store: &mut [u8], copy: &mut [u8], v: View, stamp: u32, mask: u32) 
             last: v.last,
         };
     }
-    filing::commit(store, copy, v, stamp, mask)
+    filing::commit(store, copy, v, stamp, mask, n)
 }
 
 // ---- any call
@@ -181,7 +186,7 @@ fn stay(v: View, reply: Reply) -> Performed
     }
 }
 
-// The call is done or refused, and both buffers fit again.
+// The call is done or refused, and both buffers fit again. A commit has 33 block writes at most, a tail 33 blocks.
 pub fn perform(store: &mut [u8], copy: &mut [u8], v: View, call: Call, bytes: &[u8]) -> Performed
     requires { ⌜ Fitting (now store) (now copy) v ⌝ }
     ensures { λ r. ⌜ Performs (now (store .entry)) (now (copy .entry)) v (callOf call (now (bytes .entry))) r (now (store .exit)) (now (copy .exit)) ⌝ }
@@ -193,7 +198,7 @@ pub fn perform(store: &mut [u8], copy: &mut [u8], v: View, call: Call, bytes: &[
         Call::Copy(from, to) => stay(v, Reply::Said(local::copy_sheet(copy, from, to))),
         Call::Move(from, to) => stay(v, Reply::Said(local::move_sheet(copy, from, to))),
         Call::Commit(stamp, mask) => {
-            let filed = commit_in(store, copy, v, stamp, mask);
+            let filed = commit_in(store, copy, v, stamp, mask, 33);
             let answer = filed.answer;
             let reply = Reply::Said(answer);
             Performed {
@@ -230,7 +235,24 @@ pub fn perform(store: &mut [u8], copy: &mut [u8], v: View, call: Call, bytes: &[
                 last: v.last,
                 used: v.used,
             };
-            stay(v, Reply::Said(clear_in(store, h)))
+            stay(v, Reply::Said(clear_in(store, h, 33)))
+        }
+        Call::CommitCut(stamp, mask, n) => {
+            let filed = commit_in(store, copy, v, stamp, mask, n as usize);
+            let answer = filed.answer;
+            let reply = Reply::Said(answer);
+            Performed {
+                reply,
+                used: filed.used,
+                last: filed.last,
+            }
+        }
+        Call::ClearCut(n) => {
+            let h = Header {
+                last: v.last,
+                used: v.used,
+            };
+            stay(v, Reply::Said(clear_in(store, h, n as usize)))
         }
     }
 }

@@ -1,17 +1,17 @@
 -- Buffers that no line from 1 to 6 refuses: they are a side of the machine, and every call leaves them so, the copies of the other seats too.
 -- Assumes nothing.
-use Prim.Native.Nat.{_+_, _≤_, ℕ}
+use Prim.Native.Nat.{_+_, _<_, _≤_, suc, ℕ}
 use mathlib.Core.Bool.{Bool, _&&_, false, not, true}
-use mathlib.Core.List.{List, _++_, map}
+use mathlib.Core.List.{_++_, List, [], map}
 use mathlib.Core.Option.{Option, none, some}
 use mathlib.Core.Path.{_∙_, _≡_, ap, refl, subst, sym}
 use native.Mathlib.Omega.{arith}
 use borrow.Author.Tests.{eqb-true, leb-true, not-false, not-true}
 use lib.Dec.{eqb, leb}
-use lib.ListN.{List·getD-map, getD, length, length-append}
+use lib.ListN.{List·getD-map, getD, length, length-append, length-set, set}
 use Rattle.block.specs.Lists.{All}
 use Rattle.model.specs.Blocks.{Block}
-use Rattle.model.specs.Calls.{bothConditions, call, copyConditions, sideIn, storeConditions}
+use Rattle.model.specs.Calls.{Buffers, bothConditions, call, copyConditions, sideIn, storeConditions}
 use Rattle.model.specs.Entry.{Entry, added, copied, deleted, empty, normal}
 use Rattle.model.specs.Fitting.{fitsEntry, fitsStore, has}
 use Rattle.model.specs.History.{Bytes, History, last, present, sheet}
@@ -20,17 +20,17 @@ use Rattle.model.specs.Machine.{Call, Side}
 use Rattle.model.specs.Refusals.{Clear, conditions, firstOf, tailConditions}
 use Rattle.model.specs.Rows.{some-row}
 use Rattle.model.specs.Run.{Typed, ownConditions, sideBy, sideStep}
-use Rattle.model.specs.Shows.{Accepted, Seen}
+use Rattle.model.specs.Shows.{Accepted, AllAccepted, Seen}
 use Rattle.model.specs.Store.{Holds, bareOf, blanks, blockCount, front, storeBlocks, storeHistory}
 use Rattle.model.specs.WorkCopy.{FitsCopyBlock, HoldsCopy, copyOk, entriesOf, entryBlock, seatOf}
 use Rattle.laws.proofs.Accepting.{accepted-sound}
 use Rattle.laws.proofs.All.{All-getD}
 use Rattle.laws.proofs.Conditions.{clear, clear-split, none-holds, own-none, sized-so}
 use Rattle.laws.proofs.Invariant.{KeptSide, fits-still, kept-doing}
-use Rattle.laws.proofs.Rows.{is-T, no-row}
+use Rattle.laws.proofs.Rows.{is-T, no-row, set-any}
 use Rattle.laws.proofs.Steps.{copy-clear, same-seat, side-one, store-clear}
 use Rattle.laws.proofs.Store.{taken-holds, taken-tailed}
-use Rattle.laws.proofs.WorkCopy.{copy-holds}
+use Rattle.laws.proofs.WorkCopy.{copy-holds, holds-copy}
 use Rattle.laws.proofs.Writing.{front-blanks, holds-blocks}
 
 pub both : (a b : Bool) → (a && b) ≡ true → (a ≡ true) × (b ≡ true)
@@ -128,6 +128,12 @@ module _ (store copy : Bytes) (A : Accepted store copy) where
         copyTaken = none-holds (copyConditions (call store copy c .store) (call store copy c .copy)) (copy-clear (blockCount store) (call store copy c .store) (call store copy c .copy) (sideBy o d c .1) (r .1) k lo hi);
       }
 
+  -- the copy is its seat's
+  seat-stays : (c : Call) → Typed c → seatOf (call store copy c .copy) ≡ seatOf copy
+  seat-stays c ty =
+      let o : Option ℕ = firstOf (ownConditions d c) in
+      holds-copy (call store copy c .copy) (sideBy o d c .1 .seat) (sideBy o d c .1 .entries) (accepted-call c ty .1 .copied) .2 ∙ still-by o c
+
 -- and so are the copies of the other seats, with the store as the call left it
 pub others-accepted : (store copy other : Bytes) → Accepted store copy → Accepted store other → (c : Call) → Typed c → Accepted (call store copy c .store) other
 others-accepted store copy other A B c ty =
@@ -155,6 +161,20 @@ others-accepted store copy other A B c ty =
     record {
       storeTaken = none-holds (storeConditions (call store copy c .store)) (store-clear (blockCount store) (call store copy c .store) other x V′ K′ (seats store other B .0) (seats store other B .1));
       copyTaken = none-holds (copyConditions (call store copy c .store) other) (copy-clear (blockCount store) (call store copy c .store) other x V′ K′ (seats store other B .0) (seats store other B .1));
+    }
+
+-- a call leaves the four copies accepted
+pub turn-accepted : (b : Buffers) → AllAccepted b → (k : ℕ) → k < 4 → (c : Call) → Typed c
+    → AllAccepted (record { store = call (b .store) (getD (b .copies) k []) c .store; copies = set (b .copies) k (call (b .store) (getD (b .copies) k []) c .copy) })
+turn-accepted b A k low c ty =
+    let s : Bytes = b .store in
+    let x : Bytes = getD (b .copies) k [] in
+    record {
+      four = length-set (b .copies) k (call s x c .copy) ∙ A .four;
+      each = λ j l.
+          set-any (Accepted (call s x c .store)) (b .copies) k j [] (λ z. stays-accepted s x (A .each k low) c ty)
+          (others-accepted s x (getD (b .copies) j []) (A .each k low) (A .each j l) c ty);
+      seats = λ j l. set-any (λ (y : Bytes). seatOf y ≡ suc j) (b .copies) k j [] (λ z. seat-stays s x (A .each k low) c ty ∙ A .seats k low ∙ ap suc (sym z)) (A .seats j l);
     }
 
 -- where no line of a call holds, its buffers are accepted

@@ -6,13 +6,15 @@ use mathlib.Core.List.{List}
 use mathlib.Core.Option.{Option, none, some}
 use mathlib.Core.Path.{_∙_, _≡_, ap, refl}
 use native.Mathlib.Omega.{arith}
+use lib.Dec.{leb}
 use lib.ListN.{getD, length}
 use Rattle.model.specs.Entry.{Entry, added, copied, deleted, empty, modified, normal, ownBytes, pending}
 use Rattle.model.specs.History.{Bytes, History, change, last, namer, names, newest, nothing, present, sheet}
-use Rattle.model.specs.Machine.{Add, Answer, Call, Clears, Commits, Copy, Delete, Edit, Log, Move, Read, Revert, Show, Side, State, Status, Update, agreed, asBytes, asIn, chosen, doing, entry, fresh, orElse, refusal, refused, sameNamer, shown, shownNamer, sideOf, updated, updatedTo}
+use Rattle.model.specs.Machine.{Add, Answer, Call, Clears, ClearsCut, Commits, CommitsCut, Copy, Delete, Edit, Log, Move, Read, Revert, Show, Side, State, Status, Update, agreed, asBytes, asIn, blocksFor, chosen, commitChanges, doing, entry, fresh, orElse, refusal, refused, sameNamer, shown, shownNamer, sideOf, updated, updatedTo}
 use Rattle.model.specs.Refusals.{conditions, firstOf, noSheet, tooLate}
 use Rattle.model.specs.Run.{Turn, accepted, ownConditions, run, sideBy, sideStep, step, stepBy}
 use Rattle.laws.proofs.Conditions.{clear, own-none}
+use Rattle.laws.proofs.Rows.{cond-any}
 use Rattle.laws.proofs.Lasting.{found}
 use Rattle.laws.proofs.Rows.{rows-at}
 
@@ -35,6 +37,9 @@ done-by d (Show i) e = shows (shownNamer (ownBytes (entry d i)) (namer (d .histo
 done-by d (Status i) e = refl
 done-by d (Log R i) e = refl
 done-by d Clears e = refl
+done-by d (CommitsCut stamp mask n) e =
+    cond-any (λ (x : Answer × Side). refusal (x .0) ≡ none) (leb (blocksFor (d .history) (commitChanges (d .history) mask (d .entries))) n) (λ t. refl) (λ t. refl)
+done-by d (ClearsCut n) e = cond-any (λ (x : Answer × Side). refusal (x .0) ≡ none) (leb (d .tail) n) (λ t. refl) (λ t. refl)
 
 number-by : (o : Option ℕ) (s : State) (seat : ℕ) (c : Call) → firstOf (ownConditions (sideOf s seat) c) ≡ o → refusal (stepBy o s seat c .0) ≡ o
 number-by (some n) s seat c e = refl

@@ -1,32 +1,36 @@
 -- Demand 1: on any bytes whatever a call answers a number if and only if its condition is the first that holds, and then every buffer stays; otherwise it is done as the
 -- machine does it.
 -- Assumes nothing.
-use Prim.Native.Nat.{ℕ}
-use mathlib.Core.List.{List, [], _∷_}
+use Prim.Native.Nat.{_-_, _≤_, ℕ}
+use mathlib.Core.List.{_∷_, List, []}
+use mathlib.Core.Bool.{Bool, cond}
 use mathlib.Core.Logic.{_↔_}
 use mathlib.Core.Option.{Option, none, some}
 use mathlib.Core.Path.{_∙_, _≡_, ap, refl, subst, sym}
 use native.Mathlib.Omega.{arith}
-use lib.ListN.{replicate}
-use Rattle.model.specs.Calls.{Out, answerBy, bothConditions, call, changeBy, changeCall, clearCall, conditionsIn, createBy, createCopy, createCopyConditions, createStore, foundPlace, freshCopy, freshStore, heard, logCall, out, ownPlace, placeBy, readCall, readPlace, refusalOf, showPlace, sideIn, sizeCondition, statusCall, storeConditions, storeOnlyConditions, storeRefusal, storeSide}
-use Rattle.model.specs.Demand1.{Cleared, Demand1, DoneOn, Refuses}
+use lib.ListN.{length, replicate}
+use Rattle.model.specs.Calls.{Created, Out, answerBy, bothConditions, call, changeBy, changeCall, clearCall, clearCutCall, clearedBy, commitCutCall, commitWrites, conditionsIn, createBy, createCopy, createCopyConditions, createStore, foundPlace, freshCopy, freshStore, heard, logCall, out, ownPlace, placeBy, readCall, readPlace, refusalOf, showPlace, sideIn, sizeCondition, statusCall, stoppedBy, storeConditions, storeOnlyConditions, storeRefusal, storeSide}
+use Rattle.model.specs.Demand1.{Cleared, ClearedSome, Demand1, DoneOn, Refuses}
+use borrow.Author.Tests.{leb-true}
+use lib.Dec.{leb}
 use Rattle.model.specs.Entry.{empty, ownBytes}
 use Rattle.model.specs.Fitting.{FitsEntry}
 use Rattle.model.specs.History.{Bytes, last}
-use Rattle.model.specs.Machine.{Add, Answer, Call, Clears, Commits, Copy, Delete, Edit, Log, Move, Read, Revert, Show, Side, Status, Update, doing, done, entry, refusal, refused}
+use Rattle.model.specs.Machine.{Add, Answer, Call, Clears, ClearsCut, Commits, CommitsCut, Copy, Delete, Edit, Log, Move, Read, Revert, Show, Side, Status, Update, doing, done, entry, refusal, refused, stopped}
 use Rattle.model.specs.Refusals.{Clear, Condition, First, conditions, firstOf, tailConditions}
 use Rattle.model.specs.Run.{Typed, ownConditions, sideBy, sideStep}
 use Rattle.model.specs.Shows.{Accepted, Seen}
-use Rattle.model.specs.Store.{bareOf, blockCount, storeHistory}
+use Rattle.model.specs.Store.{bareOf, blockCount, storeHistory, tailOf, usedOf}
 use Rattle.laws.proofs.Accepted.{accepted-call, clear-accepted}
+use Rattle.model.specs.Tail.{Tailed}
 use Rattle.laws.proofs.Conditions.{clear-first, clear-split, first-iff, none-holds}
 use Rattle.laws.proofs.Demand2.{laid-copy}
 use Rattle.laws.proofs.Fresh.{fresh-copy}
-use Rattle.laws.proofs.Rows.{replicate-any}
+use Rattle.laws.proofs.Rows.{cond-any, replicate-any}
 
 -- a call whose first line that holds has the number n
 pub refused-leaves : (store copy : Bytes) (c : Call) (n : ℕ) → firstOf (conditionsIn store copy c) ≡ some n → call store copy c ≡ out (refused n) store copy
-unfolding changeCall clearCall readPlace showPlace statusCall logCall refusalOf storeRefusal
+unfolding changeCall clearCall clearCutCall commitCutCall readPlace showPlace statusCall logCall refusalOf storeRefusal
 refused-leaves store copy (Add i x) n e = ap (λ (o : Option ℕ). changeBy o store copy (Add i x)) e
 refused-leaves store copy (Edit i x) n e = ap (λ (o : Option ℕ). changeBy o store copy (Edit i x)) e
 refused-leaves store copy (Delete i) n e = ap (λ (o : Option ℕ). changeBy o store copy (Delete i)) e
@@ -42,6 +46,8 @@ refused-leaves store copy (Show i) n e =
 refused-leaves store copy (Status i) n e = ap (λ (o : Option ℕ). out (answerBy o (doing (sideIn store copy) (Status i) .0)) store copy) e
 refused-leaves store copy (Log R i) n e = ap (λ (o : Option ℕ). out (answerBy o (doing (storeSide store) (Log R i) .0)) store copy) e
 refused-leaves store copy Clears n e = ap (λ (o : Option ℕ). out (createBy o store (bareOf store) .says) (createBy o store (bareOf store) .buffer) copy) e
+refused-leaves store copy (CommitsCut stamp mask m) n e = ap (λ (o : Option ℕ). stoppedBy o store copy stamp mask m) e
+refused-leaves store copy (ClearsCut m) n e = ap (λ (o : Option ℕ). out (clearedBy o store m .says) (clearedBy o store m .buffer) copy) e
 
 own-heard : (store copy : Bytes) (o : Option Bytes) (i R : ℕ) → refusal (heard store copy (ownPlace o i (foundPlace store R i))) ≡ none
 own-heard store copy none i R = refl
@@ -49,7 +55,7 @@ own-heard store copy (some x) i R = refl
 
 -- a call of which no line holds
 pub unrefused-answers : (store copy : Bytes) (c : Call) → firstOf (conditionsIn store copy c) ≡ none → refusal (call store copy c .says) ≡ none
-unfolding changeCall clearCall readPlace showPlace statusCall logCall refusalOf storeRefusal
+unfolding changeCall clearCall clearCutCall commitCutCall readPlace showPlace statusCall logCall refusalOf storeRefusal
 unrefused-answers store copy (Add i x) e = ap (λ (o : Option ℕ). refusal (changeBy o store copy (Add i x) .says)) e
 unrefused-answers store copy (Edit i x) e = ap (λ (o : Option ℕ). refusal (changeBy o store copy (Edit i x) .says)) e
 unrefused-answers store copy (Delete i) e = ap (λ (o : Option ℕ). refusal (changeBy o store copy (Delete i) .says)) e
@@ -65,6 +71,11 @@ unrefused-answers store copy (Show i) e =
 unrefused-answers store copy (Status i) e = ap (λ (o : Option ℕ). refusal (answerBy o (doing (sideIn store copy) (Status i) .0))) e
 unrefused-answers store copy (Log R i) e = ap (λ (o : Option ℕ). refusal (answerBy o (doing (storeSide store) (Log R i) .0))) e
 unrefused-answers store copy Clears e = ap (λ (o : Option ℕ). refusal (createBy o store (bareOf store) .says)) e
+unrefused-answers store copy (CommitsCut stamp mask m) e =
+    ap (λ (o : Option ℕ). refusal (stoppedBy o store copy stamp mask m .says)) e
+    ∙ cond-any (λ (x : Out). refusal (x .says) ≡ none) (leb (length (commitWrites store copy stamp mask)) m) (λ t. refl) (λ t. refl)
+unrefused-answers store copy (ClearsCut m) e =
+    ap (λ (o : Option ℕ). refusal (clearedBy o store m .says)) e ∙ cond-any (λ (x : Created). refusal (x .says) ≡ none) (leb (tailOf store) m) (λ t. refl) (λ t. refl)
 
 -- the number that a call answers is that of the first line that holds, and there is none where none holds
 pub numbered-call : (store copy : Bytes) (c : Call) → refusal (call store copy c .says) ≡ firstOf (conditionsIn store copy c)
@@ -96,31 +107,46 @@ module _ (store copy : Bytes) where
       record { says = r .0 ∙ ap (λ (x : Answer × Side). x .0) e; holds = subst (λ (x : Answer × Side). Seen (blockCount store) (call store copy c .store) (call store copy c .copy) (x .1)) e (r .1) }
 
   -- a store that is accepted, is so with a fresh copy
-  pub fresh-accepted : Clear (storeConditions store) → Accepted store (freshCopy 1)
-  fresh-accepted h = record {
+  pub fresh-accepted : (k : ℕ) → 1 ≤ k → k ≤ 4 → Clear (storeConditions store) → Accepted store (freshCopy k)
+  fresh-accepted k lo hi h = record {
     storeTaken = none-holds (storeConditions store) h;
-    copyTaken = laid-copy store (freshCopy 1) 1 (replicate 32 empty) (fresh-copy 1 (omega arith) (omega arith), λ i. replicate-any (FitsEntry (storeHistory store) i) 32 i empty empty tt tt) .0;
+    copyTaken = laid-copy store (freshCopy k) k (replicate 32 empty) (fresh-copy k lo hi, λ i. replicate-any (FitsEntry (storeHistory store) i) 32 i empty empty tt tt) .0;
   }
+
+  mine : Clear (storeConditions store) → Accepted store (freshCopy 1)
+  mine = fresh-accepted 1 (omega arith) (omega arith)
 
   reads : (R i : ℕ) → Clear (storeOnlyConditions store (Read R i)) → readCall store R i ≡ doing (storeSide store) (Read R i) .0
   reads R i h =
       let p = clear-split (storeConditions store) (conditions (storeSide store) (Read R i)) h in
       let d : Side = sideIn store (freshCopy 1) in
-      accepted-call store (freshCopy 1) (fresh-accepted (p .0)) (Read R i) tt .0
+      accepted-call store (freshCopy 1) (mine (p .0)) (Read R i) tt .0
       ∙ ap (λ (o : Option ℕ). sideBy o d (Read R i) .0) (none-holds (conditions d (Read R i)) (p .1))
 
   logs : (R i : ℕ) → Clear (storeOnlyConditions store (Log R i)) → logCall store R i ≡ doing (storeSide store) (Log R i) .0
   logs R i h =
       let p = clear-split (storeConditions store) (conditions (storeSide store) (Log R i)) h in
       let d : Side = sideIn store (freshCopy 1) in
-      accepted-call store (freshCopy 1) (fresh-accepted (p .0)) (Log R i) tt .0
+      accepted-call store (freshCopy 1) (mine (p .0)) (Log R i) tt .0
       ∙ ap (λ (o : Option ℕ). sideBy o d (Log R i) .0) (none-holds (conditions d (Log R i)) (p .1))
 
   clears : Clear (storeConditions store) → Cleared store (clearCall store)
   unfolding clearCall storeRefusal
   clears h =
-      let r = accepted-call store (freshCopy 1) (fresh-accepted h) Clears tt in
+      let r = accepted-call store (freshCopy 1) (mine h) Clears tt in
       record { says = r .0; holds = r .1 .stored }
+
+  clears-cut : (n : ℕ) → Clear (storeConditions store) → ClearedSome store n (clearCutCall store n)
+  clears-cut n h =
+      let r = accepted-call store (freshCopy 1) (mine h) (ClearsCut n) tt in
+      let d : Side = sideIn store (freshCopy 1) in
+      record {
+        says = r .0 ∙ cond-any (λ (x : Answer × Side). x .0 ≡ cond (leb (tailOf store) n) done stopped) (leb (tailOf store) n) (λ t. ap (λ (b : Bool). cond b done stopped) (sym t)) (λ t. ap (λ (b : Bool). cond b done stopped) (sym t));
+        holds =
+            cond-any (λ (x : Answer × Side). Tailed (blockCount store) (clearCutCall store n .buffer) (x .1 .history) (x .1 .used) (x .1 .tail) → Tailed (blockCount store) (clearCutCall store n .buffer) (storeHistory store) (usedOf store) (tailOf store - n)) (leb (tailOf store) n)
+            (λ t y. let z : 0 ≡ tailOf store - n = omega (arith, leb-true (tailOf store) n t) in subst (λ (k : ℕ). Tailed (blockCount store) (clearCutCall store n .buffer) (storeHistory store) (usedOf store) k) z y) (λ t y. y)
+            (r .1 .stored);
+      }
 
 -- create
 module _ (old new : Bytes) where
@@ -149,6 +175,7 @@ demand-one store copy = record {
   reads = λ R i h. ap (λ (a : Answer). out a store copy) (reads store copy R i h);
   logs = λ R i h. ap (λ (a : Answer). out a store copy) (logs store copy R i h);
   clears = clears store copy;
+  clears-cut = clears-cut store copy;
   store-numbered = create-first store (freshStore (blockCount store)) (sizeCondition store ∷ []);
   store-stays = create-stays store (freshStore (blockCount store)) (firstOf (sizeCondition store ∷ []));
   store-made = create-made store (freshStore (blockCount store)) (sizeCondition store ∷ []);

@@ -59,7 +59,7 @@ accepted-append s (t ∷ us) vs =
     ∙ sym (append-assoc new (accepted (step s (t .by) (t .call) .1) us) (accepted (run (step s (t .by) (t .call) .1) us) vs))
 
 -- what read finds in buffers that show a state
-read-found : (N : ℕ) (b : Buffers) (s : State) (R i : ℕ) → Shows N b s → Kept s → R ≤ last (s .history) → i ≤ 31
+pub read-found : (N : ℕ) (b : Buffers) (s : State) (R i : ℕ) → Shows N b s → Kept s → R ≤ last (s .history) → i ≤ 31
     → readCall (b .store) R i ≡ asBytes (namer (s .history) R i) (sheet (s .history) R i)
 read-found N b s R i W K le small =
     read-one N (b .store) (getD (b .copies) 0 []) (sideOf s 1) (seen-seat N b s 1 W (omega arith) (omega arith)) (kept-side s 1 K (omega arith) (omega arith)) (omega arith) (omega arith) R i
@@ -80,7 +80,7 @@ no-conflict h R i (deleted b) p = let w : _≡_ {A = ℕ} 0 1 = cc in absurd (om
 no-conflict h R i (copied s r x) p = let w : _≡_ {A = ℕ} 0 1 = cc in absurd (omega arith)
 
 -- what an update brings, in buffers that show a state
-update-brings : (N : ℕ) (b : Buffers) (s : State) (k mask R : ℕ) → Shows N b s → Kept s → 1 ≤ k → k ≤ 4 → (mask ≡ 0 → ⊥) → R ≤ last (s .history)
+pub update-brings : (N : ℕ) (b : Buffers) (s : State) (k mask R : ℕ) → Shows N b s → Kept s → 1 ≤ k → k ≤ 4 → (mask ≡ 0 → ⊥) → R ≤ last (s .history)
     → NothingPending b (s .history) k → Brings (call (b .store) (copyIn b k) (Update mask R)) (s .history) mask R
 update-brings N b s k mask R W K lo hi nz le np =
     let d : Side = sideOf s k in

@@ -7,13 +7,13 @@ use mathlib.Core.Option.{Option, none, some}
 use mathlib.Core.Path.{_∙_, _≡_, ap, refl, sym}
 use native.Mathlib.Omega.{arith}
 use borrow.Author.Tests.{eqb-true, ltb-false, not-false}
-use lib.Dec.{eqb, ltb}
+use lib.Dec.{eqb, leb, ltb}
 use lib.ListN.{getD, getD-replicate, length, length-append, length-set, replicate, set}
 use Rattle.block.specs.Lists.{All}
 use Rattle.model.specs.Entry.{Entry, added, changeFor, copied, deleted, empty, modified, normal, pending}
 use Rattle.model.specs.History.{Bytes, Change, Commit, History, add, change, changeOf, copy, delete, isBytes, last, made, namedAfter, namer, names, newest, nothing, present, sheet}
 use Rattle.model.specs.Invariant.{Base, FitsAt, Kept, Made, Right, Short, Sound, usedBy}
-use Rattle.model.specs.Machine.{Add, Call, Clears, Commits, Copy, Delete, Edit, Log, Move, Read, Revert, Show, Side, State, Status, Update, agreed, asIn, blocksFor, chosen, commitChanges, committing, copyOf, count, doing, edited, entry, fresh, newCommit, orElse, put, removed, revertedOf, sameNamer, settled, sideOf, updatedTo, withEntries, withEntry}
+use Rattle.model.specs.Machine.{Add, Answer, Call, Clears, ClearsCut, Commits, CommitsCut, Copy, Delete, Edit, Log, Move, Read, Revert, Show, Side, State, Status, Update, agreed, asIn, blocksFor, chosen, commitChanges, committing, copyOf, count, doing, edited, entry, fresh, newCommit, orElse, put, removed, revertedOf, sameNamer, settled, sideOf, updatedTo, withEntries, withEntry, withTail}
 use Rattle.model.specs.Refusals.{conditions, firstOf, noSheet, outOfDate, tooLate}
 use Rattle.model.specs.Rows.{rows, some-row, total}
 use Rattle.model.specs.Run.{AllValid, Turn, Typed, Valid, run, step, stepBy, ownConditions}
@@ -250,6 +250,10 @@ committable d stamp mask e lo hi ty =
       small = ty;
     }
 
+-- the tail is nothing to the rest
+kept-tail : (d : Side) (t : ℕ) → KeptSide d → KeptSide (withTail d t)
+kept-tail d t K = record { sound = K .sound; fits = K .fits; wide = K .wide; used = K .used; room = K .room }
+
 -- a call that is not refused keeps the side
 pub kept-doing : (d : Side) (c : Call) → firstOf (conditions d c) ≡ none → 1 ≤ d .seat → d .seat ≤ 4 → Typed c → KeptSide d → KeptSide (doing d c .1)
 kept-doing d (Add i x) e lo hi ty K = kept-entry d i (added x) K (short-enough i x (clear (conditions d (Add i x)) e .0) ty)
@@ -270,7 +274,11 @@ kept-doing d (Read R i) e lo hi ty K = K
 kept-doing d (Show i) e lo hi ty K = K
 kept-doing d (Status i) e lo hi ty K = K
 kept-doing d (Log R i) e lo hi ty K = K
-kept-doing d Clears e lo hi ty K = record { sound = K .sound; fits = K .fits; wide = K .wide; used = K .used; room = K .room }
+kept-doing d Clears e lo hi ty K = kept-tail d 0 K
+kept-doing d (CommitsCut stamp mask n) e lo hi ty K =
+    cond-any (λ (x : Answer × Side). KeptSide (x .1)) (leb (blocksFor (d .history) (commitChanges (d .history) mask (d .entries))) n)
+    (λ t. kept-commit d stamp mask K (committable d stamp mask e lo hi ty)) (λ t. kept-tail d n K)
+kept-doing d (ClearsCut n) e lo hi ty K = cond-any (λ (x : Answer × Side). KeptSide (x .1)) (leb (d .tail) n) (λ t. kept-tail d 0 K) (λ t. kept-tail d (d .tail - n) K)
 
 -- a call leaves the block count, and leaves the history or lengthens it by the commit that it asks for
 pub fits-still : (d : Side) (c : Call) → firstOf (conditions d c) ≡ none → (i : ℕ) (e : Entry) → FitsAt (d .history) i e → FitsAt (doing d c .1 .history) i e
@@ -287,6 +295,10 @@ fits-still d (Show i) n j e f = f
 fits-still d (Status i) n j e f = f
 fits-still d (Log R i) n j e f = f
 fits-still d Clears n j e f = f
+fits-still d (CommitsCut stamp mask m) n j e f =
+    cond-any (λ (x : Answer × Side). FitsAt (x .1 .history) j e) (leb (blocksFor (d .history) (commitChanges (d .history) mask (d .entries))) m)
+    (λ t. fits-grown (d .history) (newCommit d stamp mask) j e f) (λ t. f)
+fits-still d (ClearsCut m) n j e f = cond-any (λ (x : Answer × Side). FitsAt (x .1 .history) j e) (leb (d .tail) m) (λ t. f) (λ t. f)
 
 -- ---- a step, and a list of calls
 

@@ -5,10 +5,12 @@ use mathlib.Core.Bool.{cond, false}
 use mathlib.Core.List.{List, [], _++_, _∷_, append-assoc, append-nil}
 use mathlib.Core.Option.{Option, none, some}
 use mathlib.Core.Path.{_∙_, _≡_, ap, refl, sym}
+use lib.Dec.{leb}
 use Rattle.model.specs.History.{Bytes, History, last, sheet}
-use Rattle.model.specs.Machine.{Add, Call, Clears, Commits, Copy, Delete, Edit, Log, Move, Read, Revert, Show, State, Status, Update, asBytes, fresh, sideOf}
+use Rattle.model.specs.Machine.{Add, Answer, Call, Clears, ClearsCut, Commits, CommitsCut, Copy, Delete, Edit, Log, Move, Read, Revert, Show, Side, State, Status, Update, asBytes, blocksFor, commitChanges, fresh, newCommit, sideOf}
 use Rattle.model.specs.Refusals.{firstOf}
 use Rattle.model.specs.Run.{Turn, accepted, asked, isRevision, run, step, stepBy, ownConditions}
+use Rattle.laws.proofs.Rows.{cond-any}
 use Rattle.laws.proofs.Trees.{sheet-grown}
 
 -- read and show answer no revision
@@ -32,6 +34,12 @@ grown-by none s k (Show i) = rw not-revision (sym (append-nil (s .history)))
 grown-by none s k (Status i) = sym (append-nil (s .history))
 grown-by none s k (Log R i) = sym (append-nil (s .history))
 grown-by none s k Clears = sym (append-nil (s .history))
+grown-by none s k (CommitsCut stamp mask n) =
+    let d : Side = sideOf s k in
+    cond-any (λ (x : Answer × Side). x .1 .history ≡ s .history ++ cond (isRevision (x .0)) (newCommit d stamp mask ∷ []) [])
+    (leb (blocksFor (d .history) (commitChanges (d .history) mask (d .entries))) n) (λ t. refl) (λ t. sym (append-nil (s .history)))
+grown-by none s k (ClearsCut n) =
+    cond-any (λ (x : Answer × Side). x .1 .history ≡ s .history ++ cond (isRevision (x .0)) [] []) (leb (s .tail) n) (λ t. sym (append-nil (s .history))) (λ t. sym (append-nil (s .history)))
 
 -- the history only grows, at its end, by the accepted commits
 pub run-grows : (s : State) (ts : List Turn) → run s ts .history ≡ s .history ++ accepted s ts

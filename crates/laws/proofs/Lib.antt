@@ -26,6 +26,7 @@ pub mod Invariant
 pub mod Lasting
 pub mod Answers
 pub mod Places
+pub mod Cutting
 pub mod Steps
 pub mod Accepted
 pub mod Demand2
@@ -38,3 +39,6 @@ pub mod Ordered
 pub mod SameEdit
 pub mod SetBy
 pub mod HalfWritten
+pub mod Cuts
+pub mod CutCommits
+pub mod PowerCuts

@@ -7,25 +7,26 @@ use mathlib.Core.List.{List, [], _++_, _∷_, append-assoc, append-nil, map}
 use mathlib.Core.Option.{Option, none, some}
 use mathlib.Core.Path.{_∙_, _≡_, ap, ap₂, refl, subst, sym}
 use native.Mathlib.Omega.{arith}
-use borrow.Author.Tests.{le-ltb}
+use borrow.Author.Tests.{le-ltb, leb-false}
+use lib.Dec.{leb}
 use lib.ListN.{drop, getD, length, length-append, replicate, take}
 use lib.Seq.{take-at}
 use Rattle.block.specs.Lists.{All}
 use Rattle.model.specs.Blocks.{Block, blank, commit, content, fieldsOf}
-use Rattle.model.specs.Calls.{Buffers, afterTurn, bothConditions, call, changeBy, changeCall, clearCall, commitCall, createBy, freshBuffers, freshCopy, freshStore, refusalOf, runOn, sideIn, storeConditions, storeRefusal, storeWith}
+use Rattle.model.specs.Calls.{Buffers, Created, afterTurn, bothConditions, call, changeBy, changeCall, clearCall, clearCutCall, clearedBy, commitCall, commitCutCall, commitWrites, createBy, freshBuffers, freshCopy, freshStore, out, refusalOf, runOn, sideIn, stoppedBy, storeConditions, storeRefusal, storeWith, writtenFrom}
 use Rattle.model.specs.Codec.{joined}
 use Rattle.model.specs.Demand2.{LaidStore}
 use Rattle.model.specs.History.{Bytes, Commit, History, last, namer, noCommit, sheet}
 use Rattle.model.specs.Invariant.{Kept, Made, takes}
 use Rattle.model.specs.Layout.{Lays, Table}
-use Rattle.model.specs.Machine.{Add, Answer, Call, Clears, Commits, Copy, Delete, Edit, Log, Move, Read, Revert, Show, Side, State, Status, Update, blocksFor, doing, fresh, newCommit, revision, sideOf}
+use Rattle.model.specs.Machine.{Add, Answer, Call, Clears, ClearsCut, Commits, CommitsCut, Copy, Delete, Edit, Log, Move, Read, Revert, Show, Side, State, Status, Update, blocksFor, committing, done, fresh, newCommit, revision, sideOf, stopped, withTail}
 use Rattle.model.specs.Order.{commitBlocks, commitsBlocks, contentsAfter, continued, filled, linesAfter, storeBytes}
 use Rattle.model.specs.Ordered.{Appends, Ordered, ReadAs}
 use Rattle.model.specs.Pass.{grown, tablesAfter, tablesOf}
 use Rattle.model.specs.Refusals.{conditions, firstOf, noSheet, tooLate}
-use Rattle.model.specs.Run.{AllValid, Turn, Typed, accepted, asked, isRevision, ownConditions, run, sideBy, sideStep, step, stepBy}
+use Rattle.model.specs.Run.{AllValid, Turn, Typed, Valid, accepted, asked, isRevision, ownConditions, run, sideBy, sideStep, step}
 use Rattle.model.specs.Shows.{Accepted, Seen, Shows, stateIn}
-use Rattle.model.specs.Store.{bareOf, blanks, blockCount, blocksOf, front, storeBlocks, storeHistory, tailOf, usedOf}
+use Rattle.model.specs.Store.{bareOf, blankFrom, blanks, blockCount, blocksOf, front, storeBlocks, storeHistory, tailOf, usedOf}
 use Rattle.model.specs.Tail.{Stored, Tailed}
 use Rattle.model.specs.Writing.{newContents, withCommit}
 use Rattle.laws.proofs.Acceptance.{lays-accepted}
@@ -33,6 +34,7 @@ use Rattle.laws.proofs.Accepted.{accepted-call, accepted-kept, accepted
 use Rattle.laws.proofs.All.{all-drop}
 use Rattle.laws.proofs.Answers.{read-side}
 use Rattle.laws.proofs.Conditions.{clear, none-holds, own-none, untailed-so}
+use Rattle.laws.proofs.Cutting.{cleared-kin}
 use Rattle.laws.proofs.Demand1.{fresh-accepted}
 use Rattle.laws.proofs.Demand2.{demand-two}
 use Rattle.laws.proofs.Demand3.{whole}
@@ -42,8 +44,8 @@ use Rattle.laws.proofs.Lasting.{found}
 use Rattle.laws.proofs.Order.{laid-in-order, tables-after, written-ordered}
 use Rattle.laws.proofs.Parts.{joined-append}
 use Rattle.laws.proofs.Replaying.{accepted-shows, accepted-state}
-use Rattle.laws.proofs.Steps.{one-step, same-refusal, same-side, seen-seat, step-side}
-use Rattle.laws.proofs.Store.{bare-held, bare-stored, count-held, history-held, stored-tailed, tail-held, tailed-none, tailed-stored}
+use Rattle.laws.proofs.Steps.{count-is, cut-kin, one-step, same-refusal, same-side, seen-seat, step-side, stored-now}
+use Rattle.laws.proofs.Store.{bare-held, bare-stored, count-held, history-held, stored-tailed, tail-held, tailed-none, tailed-stored, used-held}
 use Rattle.laws.proofs.Tailing.{front-is}
 use Rattle.laws.proofs.Trees.{used-low}
 use Rattle.laws.proofs.WorkCopy.{length-joined}
@@ -98,7 +100,7 @@ module _ (N : ℕ) (store : Bytes) (h : History) (used t : ℕ) (X : Tailed N st
       take-at first (joined fieldsOf more) (512 * usedOf store) l
 
   -- with no commit added it is as it was, without its tail
-  continued-none : continued store [] ≡ X .bare
+  pub continued-none : continued store [] ≡ X .bare
   continued-none =
       let l : length (front bs) + length (blanks bs) ≡ N = sym (length-append (front bs) (blanks bs)) ∙ ap length (front-blanks bs) ∙ known .count in
       let n : N - length (front bs) - 0 ≡ length (blanks bs) = omega arith in
@@ -124,6 +126,19 @@ module _ (N : ℕ) (store : Bytes) (h : History) (used : ℕ) (S : Stored N stor
 
   stored-none : continued store [] ≡ store
   stored-none = continued-none N store h used 0 plain ∙ untailed
+
+-- clearing: the tail is none of the used blocks
+pub continued-cleared : (N : ℕ) (store : Bytes) (h : History) (used t : ℕ) (X : Tailed N store h used t) (g : History) → continued (bareOf store) g ≡ continued store g
+continued-cleared N store h used t X g =
+    ap (λ (l : Bytes). continued l g) (bare-held N store h used t X) ∙ stored-is N (X .bare) h used (X .stored) g ∙ sym (continued-is N store h used t X g)
+
+-- with another tail, what is added to a store is the same
+continued-kin : (N : ℕ) (store other : Bytes) (h : History) (used t m : ℕ) (X : Tailed N store h used t) (Y : Tailed N other h used m) → Y .bare ≡ X .bare → (g : History)
+    → continued other g ≡ continued store g
+continued-kin N store other h used t m X Y e g =
+    continued-is N other h used m Y g
+    ∙ ap (λ (l : Bytes). joined fieldsOf (further N h (front (blocksOf N l)) g)) e
+    ∙ sym (continued-is N store h used t X g)
 
 -- ---- one commit more
 
@@ -212,14 +227,6 @@ module _ (N : ℕ) (store copy : Bytes) (d : Side) (E : Seen N store copy d) (K 
         ∙ continued-on N store (d .history) (d .used) new (E .many) (omega (arith, used-low (d .history), K .used, K .room, E .blocks, E .many)) S
         (made-commit d stamp mask K C) (omega (arith, C .room, E .blocks)) g
 
-  -- clearing: the tail is none of the used blocks
-  continued-cleared : (g : History) → continued (bareOf store) g ≡ continued store g
-  continued-cleared g =
-      let X : Tailed N store (d .history) (d .used) (d .tail) = E .stored in
-      ap (λ (l : Bytes). continued l g) (bare-held N store (d .history) (d .used) (d .tail) X)
-      ∙ stored-is N (X .bare) (d .history) (d .used) (X .stored) g
-      ∙ sym (continued-is N store (d .history) (d .used) (d .tail) X g)
-
   -- what any call adds: nothing, or the commit that it asks for
   abbrev Adds : Bytes → Bool → List Commit → History → Type 0
   Adds s t new g = continued s g ≡ continued store (cond t new [] ++ g)
@@ -240,10 +247,48 @@ module _ (N : ℕ) (store copy : Bytes) (d : Side) (E : Seen N store copy d) (K 
 
   clear-by : (o : Option ℕ) (t : Bool) (g : History) → Adds (createBy o store (bareOf store) .buffer) t [] g
   clear-by (some n) t g = adds-none t g
-  clear-by none t g = continued-cleared g ∙ adds-none t g
+  clear-by none t g = continued-cleared N store (d .history) (d .used) (d .tail) (E .stored) g ∙ adds-none t g
+
+  -- the two that stop after n writes: the tail that is left is none of the used blocks
+  stopped-by : (o : Option ℕ) (stamp mask n : ℕ) → stamp < 2 ^ 32 → firstOf (ownConditions d (CommitsCut stamp mask n)) ≡ o → (g : History)
+      → Adds (stoppedBy o store copy stamp mask n .store) (isRevision (sideBy o d (CommitsCut stamp mask n) .0)) (newCommit d stamp mask ∷ []) g
+  stopped-by (some r) stamp mask n small e g = refl
+  stopped-by none stamp mask n small e g =
+      ap (λ (k : ℕ). continued (cond (leb k n) (changeBy none store copy (Commits stamp mask)) (out stopped (writtenFrom store (take n (commitWrites store copy stamp mask))) copy) .store) g) count
+      ∙ go (leb (blocksFor (d .history) (newCommit d stamp mask .changes)) n) refl
+    where
+      count : length (commitWrites store copy stamp mask) ≡ blocksFor (d .history) (newCommit d stamp mask .changes)
+      count = count-is N store copy d E K lo hi stamp mask n small e
+
+      go : (t : Bool) → leb (blocksFor (d .history) (newCommit d stamp mask .changes)) n ≡ t
+          → Adds (cond t (changeBy none store copy (Commits stamp mask)) (out stopped (writtenFrom store (take n (commitWrites store copy stamp mask))) copy) .store)
+          (isRevision (cond {A = Answer × Side} t (revision (suc (last (d .history))), committing d stamp mask) (stopped, withTail d n) .0)) (newCommit d stamp mask ∷ []) g
+      go true q = commit-by none stamp mask small e g
+      go false q =
+          let Y = cut-kin N store copy d E K lo hi stamp mask n small e (leb-false (blocksFor (d .history) (newCommit d stamp mask .changes)) n q) in
+          let S = stored-now N store copy d E K lo hi stamp mask n small e in
+          continued-kin N store (writtenFrom store (take n (commitWrites store copy stamp mask))) (d .history) (d .used) 0 n (plain N store (d .history) (d .used) S) (Y .0)
+          (Y .1 ∙ sym (untailed N store (d .history) (d .used) S)) g
+
+  cleared-by : (o : Option ℕ) (n : ℕ) (t : Bool) (g : History) → Adds (clearedBy o store n .buffer) t [] g
+  cleared-by (some r) n t g = adds-none t g
+  cleared-by none n t g = go (leb (tailOf store) n) refl ∙ adds-none t g
+    where
+      X : Tailed N store (d .history) (d .used) (d .tail)
+      X = E .stored
+
+      go : (b : Bool) → leb (tailOf store) n ≡ b
+          → continued (cond {A = Created} b (record { says = done; buffer = bareOf store }) (record { says = stopped; buffer = blankFrom (usedOf store + tailOf store - n) store }) .buffer) g ≡ continued store g
+      go true q = continued-cleared N store (d .history) (d .used) (d .tail) X g
+      go false q =
+          let Y = cleared-kin N store (d .history) (d .used) (d .tail) X (d .tail - n) (omega arith) in
+          let e = tail-held N store (d .history) (d .used) (d .tail) X in
+          let p : usedOf store + tailOf store - n ≡ d .used + (d .tail - n) = omega (arith, used-held N store (d .history) (d .used) (d .tail) X, e, leb-false (tailOf store) n q) in
+          ap (λ (k : ℕ). continued (blankFrom k store) g) p
+          ∙ continued-kin N store (blankFrom (d .used + (d .tail - n)) store) (d .history) (d .used) (d .tail) (d .tail - n) X (Y .0) (Y .1) g
 
   call-adds : (c : Call) → Typed c → (g : History) → Adds (call store copy c .store) (isRevision (sideStep d c .0)) (asked d c) g
-  unfolding changeCall clearCall
+  unfolding changeCall clearCall commitCutCall clearCutCall
   call-adds (Add i x) ty g = still-by (refusalOf store copy (Add i x)) (Add i x) (λ y. refl) (isRevision (sideStep d (Add i x) .0)) g
   call-adds (Edit i x) ty g = still-by (refusalOf store copy (Edit i x)) (Edit i x) (λ y. refl) (isRevision (sideStep d (Edit i x) .0)) g
   call-adds (Delete i) ty g = still-by (refusalOf store copy (Delete i)) (Delete i) (λ y. refl) (isRevision (sideStep d (Delete i) .0)) g
@@ -259,47 +304,32 @@ module _ (N : ℕ) (store copy : Bytes) (d : Side) (E : Seen N store copy d) (K 
   call-adds (Status i) ty g = adds-none (isRevision (sideStep d (Status i) .0)) g
   call-adds (Log R i) ty g = adds-none (isRevision (sideStep d (Log R i) .0)) g
   call-adds Clears ty g = clear-by (storeRefusal store Clears) (isRevision (sideStep d Clears .0)) g
+  call-adds (CommitsCut stamp mask n) ty g =
+      ap (λ (o : Option ℕ). continued (stoppedBy o store copy stamp mask n .store) g) (same-refusal N store copy d E K lo hi (CommitsCut stamp mask n))
+      ∙ stopped-by (firstOf (ownConditions d (CommitsCut stamp mask n))) stamp mask n ty refl g
+  call-adds (ClearsCut n) ty g = cleared-by (storeRefusal store (ClearsCut n)) n (isRevision (sideStep d (ClearsCut n) .0)) g
 
 -- ---- a list of calls
+
+-- a call by one of the four seats
+pub turn-adds : (N : ℕ) (b : Buffers) (s : State) (t : Turn) → Shows N b s → Kept s → Valid t → (g : History)
+    → continued (afterTurn b t .store) g ≡ continued (b .store) (cond (isRevision (step s (t .by) (t .call) .0)) (asked (sideOf s (t .by)) (t .call)) [] ++ g)
+turn-adds N b s t W K v g =
+    let lo : 1 ≤ t .by = v .low in
+    let hi : t .by ≤ 4 = v .high in
+    call-adds N (b .store) (getD (b .copies) (t .by - 1) []) (sideOf s (t .by)) (seen-seat N b s (t .by) W lo hi) (kept-side s (t .by) K lo hi) lo hi (t .call) (v .typed) g
+    ∙ ap (λ (a : Answer). continued (b .store) (cond (isRevision a) (asked (sideOf s (t .by)) (t .call)) [] ++ g))
+    (step-side N b s (t .by) W K lo hi (firstOf (ownConditions (sideOf s (t .by)) (t .call))) (t .call) .0)
 
 list-adds : (N : ℕ) (b : Buffers) (s : State) (ts : List Turn) → Shows N b s → Kept s → AllValid ts → bareOf (runOn b ts .store) ≡ continued (b .store) (accepted s ts)
 list-adds N b s [] W K v = bare-held N (b .store) (s .history) (s .used) (s .tail) (W .store) ∙ sym (continued-none N (b .store) (s .history) (s .used) (s .tail) (W .store))
 list-adds N b s (t ∷ ts) W K v =
     let s′ : State = step s (t .by) (t .call) .1 in
-    let lo : 1 ≤ t .by = v .0 .low in
-    let hi : t .by ≤ 4 = v .0 .high in
-    list-adds N (afterTurn b t) s′ ts (one-step N b s t W K (v .0) .1) (kept-step s t (v .0) K) (v .1)
-    ∙ call-adds N (b .store) (getD (b .copies) (t .by - 1) []) (sideOf s (t .by)) (seen-seat N b s (t .by) W lo hi) (kept-side s (t .by) K lo hi) lo hi (t .call) (v .0 .typed) (accepted s′ ts)
-    ∙ ap (λ (a : Answer). continued (b .store) (cond (isRevision a) (asked (sideOf s (t .by)) (t .call)) [] ++ accepted s′ ts))
-    (step-side N b s (t .by) W K lo hi (firstOf (ownConditions (sideOf s (t .by)) (t .call))) (t .call) .0)
-
--- none of these calls makes a tail
-tail-still : (d : Side) (c : Call) → d .tail ≡ 0 → doing d c .1 .tail ≡ 0
-tail-still d (Add i x) e = e
-tail-still d (Edit i x) e = e
-tail-still d (Delete i) e = e
-tail-still d (Copy i j) e = e
-tail-still d (Move i j) e = e
-tail-still d (Commits stamp mask) e = e
-tail-still d (Update mask R) e = e
-tail-still d (Revert mask) e = e
-tail-still d (Read R i) e = e
-tail-still d (Show i) e = e
-tail-still d (Status i) e = e
-tail-still d (Log R i) e = e
-tail-still d Clears e = refl
-
-tail-by : (o : Option ℕ) (s : State) (k : ℕ) (c : Call) → s .tail ≡ 0 → stepBy o s k c .1 .tail ≡ 0
-tail-by (some n) s k c e = e
-tail-by none s k c e = tail-still (sideOf s k) c e
-
-no-tails : (s : State) (ts : List Turn) → s .tail ≡ 0 → run s ts .tail ≡ 0
-no-tails s [] e = e
-no-tails s (t ∷ ts) e = no-tails (step s (t .by) (t .call) .1) ts (tail-by (firstOf (ownConditions (sideOf s (t .by)) (t .call))) s (t .by) (t .call) e)
+    list-adds N (afterTurn b t) s′ ts (one-step N b s t W K (v .0) .1) (kept-step s t (v .0) K) (v .1) ∙ turn-adds N b s t W K (v .0) (accepted s′ ts)
 
 -- ---- a fresh store
 
-fresh-continued : (N : ℕ) (h : History) → 1 ≤ N → continued (freshStore N) h ≡ storeBytes N h
+pub fresh-continued : (N : ℕ) (h : History) → 1 ≤ N → continued (freshStore N) h ≡ storeBytes N h
 unfolding storeBytes tablesOf tablesAfter
 fresh-continued N h le =
     stored-is N (freshStore N) [] 1 (fresh-stored N le) h
@@ -309,11 +339,13 @@ fresh-continued N h le =
 list-shows : (N : ℕ) (ts : List Turn) → 2 ≤ N → N ≤ 4_096 → AllValid ts → Shows N (runOn (freshBuffers N) ts) (run (fresh N) ts)
 list-shows N ts lo hi v = whole N (freshBuffers N) (fresh N) ts (fresh-shows N lo hi) (kept-fresh N (omega arith)) v .1
 
-list-bytes : (N : ℕ) (ts : List Turn) → 2 ≤ N → N ≤ 4_096 → AllValid ts → runOn (freshBuffers N) ts .store ≡ storeBytes N (accepted (fresh N) ts)
-list-bytes N ts lo hi v =
+list-bytes : (N : ℕ) (ts : List Turn) → 2 ≤ N → N ≤ 4_096 → AllValid ts → tailOf (runOn (freshBuffers N) ts .store) ≡ 0
+    → runOn (freshBuffers N) ts .store ≡ storeBytes N (accepted (fresh N) ts)
+list-bytes N ts lo hi v z =
     let e : State = run (fresh N) ts in
     let S : Stored N (runOn (freshBuffers N) ts .store) (e .history) (e .used) =
-    tailed-stored N (runOn (freshBuffers N) ts .store) (e .history) (e .used) (e .tail) (no-tails (fresh N) ts refl) (list-shows N ts lo hi v .store) in
+    tailed-stored N (runOn (freshBuffers N) ts .store) (e .history) (e .used) (e .tail)
+    (sym (tail-held N (runOn (freshBuffers N) ts .store) (e .history) (e .used) (e .tail) (list-shows N ts lo hi v .store)) ∙ z) (list-shows N ts lo hi v .store) in
     sym (bare-stored N (runOn (freshBuffers N) ts .store) (e .history) (e .used) S)
     ∙ list-adds N (freshBuffers N) (fresh N) ts (fresh-shows N lo hi) (kept-fresh N (omega arith)) v ∙ fresh-continued N (accepted (fresh N) ts) (omega arith)
 
@@ -412,7 +444,7 @@ laid-read : (store : Bytes) (h : History) → LaidStore store h → ReadAs store
 laid-read store h L =
     let D = demand-two store [] in
     let t : firstOf (storeConditions store) ≡ none = D .store-accepted .1 (h, L) in
-    let A : Accepted store (freshCopy 1) = fresh-accepted store [] (clear (storeConditions store) t) in
+    let A : Accepted store (freshCopy 1) = fresh-accepted store [] 1 (omega arith) (omega arith) (clear (storeConditions store) t) in
     let e : storeHistory store ≡ h = D .store-read h L .0 in
     record {
       accepted = t;
@@ -435,7 +467,7 @@ ordered = record {
   another = laid-read;
   lists = λ b ts A v. list-adds (blockCount (b .store)) b (stateIn b) ts (accepted-shows b A) (accepted-state b A) v;
   bytes = list-bytes;
-  equal = λ N ts us lo hi v w e. list-bytes N ts lo hi v ∙ ap (storeBytes N) e ∙ sym (list-bytes N us lo hi w);
+  equal = λ N ts us lo hi v w y z e. list-bytes N ts lo hi v y ∙ ap (storeBytes N) e ∙ sym (list-bytes N us lo hi w z);
   back = λ N ts us lo hi v w e. sym (list-history N ts lo hi v) ∙ ap storeHistory e ∙ list-history N us lo hi w;
   holds = λ N h lo hi s room.
       let one : 1 ≤ N = omega arith in

@@ -14,6 +14,13 @@ use Rattle.block.specs.Write.{written}
 use Rattle.model.specs.Codec.{encode, joined, padTo, padded}
 use Rattle.laws.proofs.Codec.{length-encode}
 
+-- block p, as it is lent by `&store[p * 512..p * 512 + 512]`
+pub lent-block : (l : List ℕ) (p : ℕ) → take (p * 512 + 512 - p * 512) (drop (p * 512) l) ≡ blockAt l p
+lent-block l p =
+    let k : p * 512 + 512 - p * 512 ≡ 512 = omega arith in
+    let d : p * 512 ≡ 512 * p = omega arith in
+    ap₂ (λ (x y : ℕ). take x (drop y l)) k d
+
 pad-none : (n : ℕ) → padTo n [] ≡ replicate n 0
 pad-none zero = refl
 pad-none (suc n) = ap (λ (l : List ℕ). 0 ∷ l) (pad-none n)

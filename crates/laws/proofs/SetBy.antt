@@ -111,7 +111,7 @@ module _ (store : Bytes) where
 
   found-numbered : (R i n : ℕ) → Found store R i n → Numbered store R i n × (1 ≤ n)
   found-numbered R i n F =
-      let s : Sound h = accepted-kept store (freshCopy 1) (fresh-accepted store [] (F .taken)) .sound in
+      let s : Sound h = accepted-kept store (freshCopy 1) (fresh-accepted store [] 1 (omega arith) (omega arith) (F .taken)) .sound in
       (numbered R i n (F .taken) (F .small) (F .upTo) (F .is), omega (arith, present-named h R i s (F .upTo) (F .there), F .is))
 
   read-found : (R i n : ℕ) (x : Bytes) → readCall store R i ≡ bytes x n → Found store R i n

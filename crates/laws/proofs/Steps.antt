@@ -1,40 +1,42 @@
 -- One call: on buffers that show a state it answers as the machine does, and leaves buffers that show the machine's next state.
 -- Assumes nothing.
-use Prim.Native.Nat.{_+_, _-_, _<_, _≤_, suc, ℕ}
-use mathlib.Core.Bool.{Bool, _||_, false, not, true}
+use Prim.Native.Nat.{_*_, _+_, _-_, _<_, _^_, _≤_, suc, ℕ}
+use mathlib.Core.Bool.{Bool, _||_, cond, false, not, true}
 use mathlib.Core.List.{List, [], _++_, _∷_, map}
 use mathlib.Core.Logic.{inl, inr}
 use mathlib.Core.Option.{Option, none, some}
 use mathlib.Core.Path.{_∙_, _≡_, ap, ap₂, refl, subst, sym}
 use native.Mathlib.Nat.{zero-add}
 use native.Mathlib.Omega.{arith}
-use borrow.Author.Tests.{eq-eqb, eqb-true, le-leb, ltb-false, not-false}
-use lib.Dec.{eqb}
-use lib.ListN.{getD, length, length-set, set}
+use borrow.Author.Tests.{eq-eqb, eqb-true, le-leb, leb-false, ltb-false, not-false}
+use lib.Dec.{eqb, leb}
+use lib.ListN.{getD, length, length-set, set, take}
 use lib.Seq.{getD-set-other, getD-set-same, set-getD}
 use Rattle.block.proofs.Says.{eq-or, is-true}
 use Rattle.block.specs.Lists.{All}
+use Rattle.block.specs.Write.{written}
 use Rattle.model.specs.Blocks.{Block, fieldsOf}
-use Rattle.model.specs.Calls.{Buffers, Created, Out, afterTurn, answerBy, blockPlace, call, changeBy, changeCall, clearCall, copyConditions, createBy, foundPlace, heard, logCall, out, ownPlace, placeBy, readCall, readPlace, refusalOf, showCall, showPlace, sideIn, statusCall, storeConditions, storeRefusal, storeSide, storeWith, turnOn}
+use Rattle.model.specs.Calls.{Buffers, Created, Out, afterTurn, answerBy, blockPlace, call, changeBy, changeCall, clearCall, clearCutCall, clearedBy, commitCutCall, commitWrites, copyConditions, createBy, foundPlace, heard, logCall, out, ownPlace, placeBy, readCall, readPlace, refusalOf, showCall, showPlace, sideIn, statusCall, stoppedBy, storeConditions, storeRefusal, storeSide, storeWith, turnOn, writtenFrom}
 use Rattle.model.specs.Codec.{joined}
 use Rattle.model.specs.Entry.{Entry, added, copied, deleted, empty, normal, ownBytes}
 use Rattle.model.specs.Fitting.{fitsEntry, fitsStore, has}
 use Rattle.model.specs.History.{Bytes, Commit, History, last, namer, newest, present, sheet}
 use Rattle.model.specs.Invariant.{Base, FitsAt, Kept}
-use Rattle.model.specs.Machine.{Add, Answer, Call, Clears, Commits, Copy, Delete, Edit, Log, Move, Read, Revert, Show, Side, State, Status, Update, asBytes, blocksFor, doing, entry, newCommit, put, shown, shownNamer, sideOf}
+use Rattle.model.specs.Machine.{Add, Answer, Call, Clears, ClearsCut, Commits, CommitsCut, Copy, Delete, Edit, Log, Move, Read, Revert, Show, Side, State, Status, Update, asBytes, blocksFor, commitChanges, committing, doing, done, entry, newCommit, put, revision, shown, shownNamer, sideOf, stopped, withTail}
 use Rattle.model.specs.Refusals.{Clear, _when_, conditions, firstOf, noSheet, tailConditions, tooLate}
 use Rattle.model.specs.Rows.{some-row}
 use Rattle.model.specs.Run.{Turn, Typed, Valid, asked, sideBy, sideStep, step, stepBy, ownConditions}
 use Rattle.model.specs.Shows.{Seen, Shows}
-use Rattle.model.specs.Tail.{Tailed}
-use Rattle.model.specs.Store.{blockCount, blockUsed, blocksOf, storeBlocks, storeHistory, tailOf, usedOf}
+use Rattle.model.specs.Tail.{Stored, Tailed}
+use Rattle.model.specs.Store.{bareOf, blankFrom, blanks, blockCount, blockUsed, blocksOf, front, storeBlocks, storeHistory, tailOf, usedOf}
 use Rattle.model.specs.WorkCopy.{FitsCopyBlock, HoldsCopy, copyBytes, copyOk, entriesOf, entryBlock}
-use Rattle.model.specs.Writing.{withCommit}
+use Rattle.model.specs.Writing.{newBlocks, newContents, withCommit}
 use Rattle.laws.proofs.Conditions.{clear, clear-first, clear-mid, own-none}
-use Rattle.laws.proofs.Invariant.{KeptSide, committable, kept-doing, kept-side, made-commit}
+use Rattle.laws.proofs.Cutting.{cleared-to, content-count, cut-bare, cut-stored, write-count}
+use Rattle.laws.proofs.Invariant.{Committable, KeptSide, committable, kept-doing, kept-side, made-commit}
 use Rattle.laws.proofs.Places.{heard-block, heard-own}
-use Rattle.laws.proofs.Rows.{or-false}
-use Rattle.laws.proofs.Store.{bare-held, clear-held, count-held, history-held, stored-tailed, tail-held, used-held}
+use Rattle.laws.proofs.Rows.{cond-any, or-false}
+use Rattle.laws.proofs.Store.{bare-held, clear-held, count-held, history-held, stored-tailed, tail-held, tailed-none, used-held}
 use Rattle.laws.proofs.Trees.{used-low}
 use Rattle.laws.proofs.WorkCopy.{copy-bytes, holds-copy}
 use Rattle.laws.proofs.Writing.{stored-commit}
@@ -97,6 +99,8 @@ Alters (Show i) = Unit {0}
 Alters (Status i) = Unit {0}
 Alters (Log R i) = Unit {0}
 Alters Clears = ⊥
+Alters (CommitsCut stamp mask n) = ⊥
+Alters (ClearsCut n) = ⊥
 
 -- the store that a call leaves
 stored-doing : (N : ℕ) (store : Bytes) (d : Side) (c : Call) → N ≤ 4_096 → Alters c → d .blocks ≡ N → Tailed N store (d .history) (d .used) (d .tail) → KeptSide d
@@ -126,6 +130,8 @@ stored-doing N store d (Show i) many n b S K e lo hi ty = S
 stored-doing N store d (Status i) many n b S K e lo hi ty = S
 stored-doing N store d (Log R i) many n b S K e lo hi ty = S
 stored-doing N store d Clears many n b S K e lo hi ty = absurd n
+stored-doing N store d (CommitsCut stamp mask m) many n b S K e lo hi ty = absurd n
+stored-doing N store d (ClearsCut m) many n b S K e lo hi ty = absurd n
 
 pub same-seat : (d : Side) (c : Call) → (doing d c .1 .seat ≡ d .seat) × (doing d c .1 .blocks ≡ d .blocks)
 same-seat d (Add i x) = (refl, refl)
@@ -141,6 +147,9 @@ same-seat d (Show i) = (refl, refl)
 same-seat d (Status i) = (refl, refl)
 same-seat d (Log R i) = (refl, refl)
 same-seat d Clears = (refl, refl)
+same-seat d (CommitsCut stamp mask n) =
+    cond-any (λ (x : Answer × Side). (x .1 .seat ≡ d .seat) × (x .1 .blocks ≡ d .blocks)) (leb (blocksFor (d .history) (commitChanges (d .history) mask (d .entries))) n) (λ t. (refl, refl)) (λ t. (refl, refl))
+same-seat d (ClearsCut n) = cond-any (λ (x : Answer × Side). (x .1 .seat ≡ d .seat) × (x .1 .blocks ≡ d .blocks)) (leb (d .tail) n) (λ t. (refl, refl)) (λ t. (refl, refl))
 
 -- ---- one call on a store and a seat's working copy
 
@@ -237,6 +246,127 @@ module _ (N : ℕ) (store copy : Bytes) (d : Side) (E : Seen N store copy d) (K 
         },
       )
 
+  -- the same, stopped after n writes
+  clear-cut : (n : ℕ) → Agrees (call store copy (ClearsCut n)) (sideStep d (ClearsCut n))
+  unfolding clearCutCall storeRefusal
+  clear-cut n =
+      let X = E .stored in
+      let q : firstOf (storeConditions store ++ []) ≡ none = clear-first (storeConditions store) [] store-clear in
+      let u : usedOf store ≡ d .used = used-held N store (d .history) (d .used) (d .tail) X in
+      let t : tailOf store ≡ d .tail = tail-held N store (d .history) (d .used) (d .tail) X in
+      let b : bareOf store ≡ X .bare = bare-held N store (d .history) (d .used) (d .tail) X in
+      let is : clearedBy (firstOf (storeConditions store ++ [])) store n ≡ cond {A = Created} (leb (d .tail) n) (record { says = done; buffer = X .bare }) (record { says = stopped; buffer = blankFrom (d .used + d .tail - n) store }) =
+      (λ i. clearedBy (q i) store n) ∙ (λ i. cond {A = Created} (leb (t i) n) (record { says = done; buffer = b i }) (record { says = stopped; buffer = blankFrom (u i + t i - n) store })) in
+      subst (λ (x : Created). Agrees (out (x .says) (x .buffer) copy) (sideStep d (ClearsCut n))) (sym is) (two (leb (d .tail) n) refl)
+    where
+      two : (t : Bool) → leb (d .tail) n ≡ t
+          → Agrees (let x = cond {A = Created} t (record { says = done; buffer = E .stored .bare }) (record { says = stopped; buffer = blankFrom (d .used + d .tail - n) store }) in out (x .says) (x .buffer) copy)
+          (cond t (done, withTail d 0) (stopped, withTail d (d .tail - n)))
+      two true e = (
+        refl,
+        record {
+          few = E .few;
+          many = E .many;
+          blocks = E .blocks;
+          stored = stored-tailed N (E .stored .bare) (d .history) (d .used) (E .stored .stored);
+          copied = E .copied;
+        },
+      )
+      two false e = (
+        refl,
+        record {
+          few = E .few;
+          many = E .many;
+          blocks = E .blocks;
+          stored =
+              (let w = leb-false (d .tail) n e in
+              let k : d .used + (d .tail - n) ≡ d .used + d .tail - n = omega arith in
+              subst (λ (p : ℕ). Tailed N (blankFrom p store) (d .history) (d .used) (d .tail - n)) k (cleared-to N store (d .history) (d .used) (d .tail) (E .stored) (d .tail - n) (omega arith)));
+          copied = E .copied;
+        },
+      )
+
+  -- ---- a commit that stops after n writes
+
+  module _ (stamp mask n : ℕ) (ty : stamp < 2 ^ 32) (e : firstOf (ownConditions d (CommitsCut stamp mask n)) ≡ none) where
+    abbrev c : Commit
+    c = newCommit d stamp mask
+
+    none-there : d .tail ≡ 0
+    none-there = eqb-true (d .tail) 0 (not-false (eqb (d .tail) 0) (own-none d (CommitsCut stamp mask n) e .1 .0))
+
+    X : Tailed N store (d .history) (d .used) 0
+    X = subst (λ (t : ℕ). Tailed N store (d .history) (d .used) t) none-there (E .stored)
+
+    pub stored-now : Stored N store (d .history) (d .used)
+    stored-now = subst (λ (l : Bytes). Stored N l (d .history) (d .used)) (tailed-none N store (d .history) (d .used) X) (X .stored)
+
+    C : Committable d stamp mask
+    C = committable d stamp mask (own-none d (CommitsCut stamp mask n) e .0) lo hi ty
+
+    short : last (d .history) < 65_535
+    short = omega (arith, used-low (d .history), K .used, K .room, E .blocks, E .many)
+
+    room : d .used + blocksFor (d .history) (c .changes) ≤ N
+    room = omega (arith, C .room, E .blocks)
+
+    abbrev writes : List Block
+    writes = newBlocks (front (blocksOf N store)) (blanks (blocksOf N store)) c []
+
+    pub writes-are : commitWrites store copy stamp mask ≡ writes
+    writes-are =
+        let b : bareOf store ≡ store = bare-held N store (d .history) (d .used) 0 X ∙ tailed-none N store (d .history) (d .used) X in
+        ap₂ (λ (x : List Block) (y : Side). newBlocks (front x) (blanks x) (newCommit y stamp mask) []) (ap₂ blocksOf counted b) same-side
+
+    pub count-is : length (commitWrites store copy stamp mask) ≡ blocksFor (d .history) (c .changes)
+    count-is = ap length writes-are ∙ write-count N store (d .history) (d .used) c (E .many) short stored-now (made-commit d stamp mask K C) room
+
+    pub part-is : writtenFrom store (take n (commitWrites store copy stamp mask)) ≡ written (512 * d .used) (joined fieldsOf (take n writes)) store
+    part-is =
+        ap₂ (λ (u : ℕ) (x : List Block). written (512 * u) (joined fieldsOf (take n x)) store) (used-held N store (d .history) (d .used) (d .tail) (E .stored)) writes-are
+
+    -- stopped before the last write: a tail, and the store without it is as it was
+    pub cut-kin : n < blocksFor (d .history) (c .changes)
+        → (Y : Tailed N (writtenFrom store (take n (commitWrites store copy stamp mask))) (d .history) (d .used) n) × (Y .bare ≡ store)
+    cut-kin l =
+        let M = made-commit d stamp mask K C in
+        let g : n ≤ length (newContents (front (blocksOf N store)) (blanks (blocksOf N store)) c) =
+        omega (arith, content-count N store (d .history) (d .used) c (E .many) short stored-now M room) in
+        subst (λ (s : Bytes). (Y : Tailed N s (d .history) (d .used) n) × (Y .bare ≡ store)) (sym part-is)
+        (cut-stored N store (d .history) (d .used) c (E .many) short stored-now M room n g, cut-bare N store (d .history) (d .used) c (E .many) short stored-now M room n g)
+
+    cut-two : (t : Bool) → leb (blocksFor (d .history) (c .changes)) n ≡ t
+        → Agrees (cond t (changeBy none store copy (Commits stamp mask)) (out stopped (writtenFrom store (take n (commitWrites store copy stamp mask))) copy))
+        (cond t (revision (suc (last (d .history))), committing d stamp mask) (stopped, withTail d n))
+    cut-two true q = change-by (Commits stamp mask) none tt ty e
+    cut-two false q = (
+      refl,
+      record {
+        few = E .few;
+        many = E .many;
+        blocks = E .blocks;
+        stored = cut-kin (leb-false (blocksFor (d .history) (c .changes)) n q) .0;
+        copied = E .copied;
+      },
+    )
+
+    cut-done : Agrees (stoppedBy none store copy stamp mask n) (doing d (CommitsCut stamp mask n))
+    cut-done =
+        subst (λ (o : Out). Agrees o (doing d (CommitsCut stamp mask n)))
+        (sym (ap (λ (k : ℕ). cond (leb k n) (changeBy none store copy (Commits stamp mask)) (out stopped (writtenFrom store (take n (commitWrites store copy stamp mask))) copy)) count-is))
+        (cut-two (leb (blocksFor (d .history) (c .changes)) n) refl)
+
+  cut-by : (o : Option ℕ) (stamp mask n : ℕ) → stamp < 2 ^ 32 → firstOf (ownConditions d (CommitsCut stamp mask n)) ≡ o
+      → Agrees (stoppedBy o store copy stamp mask n) (sideBy o d (CommitsCut stamp mask n))
+  cut-by (some r) stamp mask n ty e = (refl, E)
+  cut-by none stamp mask n ty e = cut-done stamp mask n ty e
+
+  cut-one : (stamp mask n : ℕ) → stamp < 2 ^ 32 → Agrees (call store copy (CommitsCut stamp mask n)) (sideStep d (CommitsCut stamp mask n))
+  unfolding commitCutCall
+  cut-one stamp mask n ty =
+      subst (λ (o : Option ℕ). Agrees (stoppedBy o store copy stamp mask n) (sideStep d (CommitsCut stamp mask n))) (sym (same-refusal (CommitsCut stamp mask n)))
+      (cut-by (firstOf (ownConditions d (CommitsCut stamp mask n))) stamp mask n ty refl)
+
   -- ---- a call that looks: it leaves the side
 
   still-by : (o : Option ℕ) (c : Call) → doing d c .1 ≡ d → sideBy o d c .1 ≡ d
@@ -315,6 +445,8 @@ module _ (N : ℕ) (store copy : Bytes) (d : Side) (E : Seen N store copy d) (K 
   side-one (Status i) ty = look-one (statusCall store copy i) (Status i) refl (status-one i)
   side-one (Log R i) ty = look-one (logCall store R i) (Log R i) refl (log-one R i)
   side-one Clears ty = clear-one
+  side-one (CommitsCut stamp mask n) ty = cut-one stamp mask n ty
+  side-one (ClearsCut n) ty = clear-cut n
 
 -- ---- one call on buffers that show a state
 

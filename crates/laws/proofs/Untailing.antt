@@ -105,7 +105,7 @@ parts-last g (suc k) l =
 
 -- ---- THE STATEMENT, the other way
 
-fits-held : (r : ℕ) (cs : List Bytes) → All FitsBlock (map (content r) cs) → All (λ (c : Bytes). FitsBlock (content r c)) cs
+pub fits-held : (r : ℕ) (cs : List Bytes) → All FitsBlock (map (content r) cs) → All (λ (c : Bytes). FitsBlock (content r c)) cs
 fits-held r [] a = tt
 fits-held r (c ∷ cs) a = (a .0, fits-held r cs (a .1))
 

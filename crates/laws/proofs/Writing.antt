@@ -300,10 +300,10 @@ module _ (bs : List Block) (h : History) (c : Commit) (few : length bs ≤ 4_096
     low : at ≤ 4_096
     low = omega (arith, lengths)
 
-    contents : length (newContents (front bs) (blanks bs) c) ≡ total (contentOf h) (c .changes)
+    pub contents : length (newContents (front bs) (blanks bs) c) ≡ total (contentOf h) (c .changes)
     contents = content-count look at tables h (source-bytes bs h L) (user-below bs h L) low (omega arith) (c .changes) (made-sources h c M)
 
-    newTables : length tables ≡ suc (last h)
+    pub newTables : length tables ≡ suc (last h)
     newTables = trees-in bs h L .count
 
     abbrev after : List Block

@@ -6,7 +6,7 @@ use mathlib.Core.Bool.{Bool, false, true}
 use mathlib.Core.List.{[]}
 use mathlib.Core.Option.{Option, none, some}
 use Rattle.model.specs.History.{Bytes}
-use Rattle.model.specs.Machine.{Answer, Call, Side, bytes, doing, done, logged, refused, revision, status}
+use Rattle.model.specs.Machine.{Answer, Call, Side, bytes, doing, done, logged, refused, revision, status, stopped}
 use Rattle.model.specs.Refusals.{conditions, firstOf}
 use Rattle.model.specs.Types.{answerOf}
 use Rattle.model.specs.WorkCopy.{copyBytes, entriesOf, seatOf}
@@ -36,6 +36,7 @@ out a copy = record { says = answerOf a; copy = copy }
 abbrev pub isDone : Answer → Bool
 isDone (refused n) = false
 isDone done = true
+isDone stopped = false
 isDone (revision R) = false
 isDone (bytes x n) = false
 isDone (status s n) = false

@@ -76,6 +76,7 @@ fn is_done(a: Answer) -> bool
     match a {
         Answer::Refused(_) => false,
         Answer::Done => true,
+        Answer::Stopped => false,
         Answer::Revision(_) => false,
         Answer::Status(_) => false,
         Answer::Logged(_) => false,

@@ -1,13 +1,14 @@
 -- Long scripts by four seats. The first two: every call, every status, every refusal from 7 to 13, and for every two lines that can hold of one call a call of which both hold. The
--- third: the cases of W2. The fourth: those of W3. Together with the handover cases they tell the machine of the documents from its likely mistakes (crates/model/must-fail).
+-- third: the cases of W2. The fourth: those of W3. The fifth: those of W6. Together with the handover cases they tell the machine of the documents from its likely mistakes (crates/model/must-fail).
 -- Assumes nothing.
-use Prim.Native.Nat.{_+_, _^_}
+use Prim.Native.Nat.{_+_, _^_, ℕ}
 use mathlib.Core.List.{[], _∷_, map}
 use mathlib.Core.Path.{_≡_, refl}
-use lib.ListN.{replicate}
+use lib.ListN.{replicate, take}
 use Rattle.model.proofs.Play.{Case, _does_, _says_, case, everything, finds, states}
 use Rattle.model.specs.History.{tree}
-use Rattle.model.specs.Machine.{Add, Commits, Copy, Delete, Edit, Log, Move, Read, Revert, Show, Status, Update, bytes, done, logged, refused, revision, status}
+use Rattle.model.specs.Machine.{Add, ClearsCut, Commits, CommitsCut, Copy, Delete, Edit, Log, Move, Read, Revert, Show, Status, Update, bytes, done, fresh, logged, refused, revision, status, stopped}
+use Rattle.model.specs.Run.{run}
 
 -- 64 calls: statuses, a stale commit and update, a copy from an older revision, a move of part of a copy, and at the end a store without room
 abbrev first : Case
@@ -289,7 +290,46 @@ fourth =
     ∷ 1 does Show 5 says bytes (3 ∷ []) 0
     ∷ []) 11
 
+-- W6. Two sheets are added; their commit has three writes. Cut after two it leaves a tail of two blocks and the entries as they were, so a commit gives 14, whatever n is; clearing is cut
+-- after one write, after none, and is done by one more. Then the commit is refused with n = 0, cut after none and after one of its writes, cleared, and done with n enough. At the end
+-- clearing without a tail, for which n = 0 is enough
+abbrev fifth : Case
+fifth =
+    case 5
+    (2 does Add 5 (65 ∷ []) says done
+    ∷ 2 does Add 7 (66 ∷ []) says done
+    ∷ 2 does CommitsCut 9 everything 2 says stopped
+    ∷ 2 does Commits 9 everything says refused 14
+    ∷ 2 does CommitsCut 9 everything 3 says refused 14
+    ∷ 1 does CommitsCut 9 0 0 says refused 14
+    ∷ 2 does Status 5 says status 5 0
+    ∷ 1 does Read 0 5 says refused 8
+    ∷ 1 does ClearsCut 1 says stopped
+    ∷ 1 does ClearsCut 0 says stopped
+    ∷ 3 does ClearsCut 1 says done
+    ∷ 2 does CommitsCut 9 0 0 says refused 7
+    ∷ 1 does CommitsCut 9 everything 0 says refused 10
+    ∷ 2 does CommitsCut 9 everything 0 says stopped
+    ∷ 2 does CommitsCut 9 everything 1 says stopped
+    ∷ 4 does ClearsCut 9 says done
+    ∷ 2 does Status 7 says status 5 0
+    ∷ 2 does CommitsCut 9 everything 3 says revision 1
+    ∷ 2 does Status 7 says status 1 1
+    ∷ 2 does Add 8 [] says done
+    ∷ 2 does CommitsCut 10 everything 0 says refused 13
+    ∷ 2 does ClearsCut 0 says done
+    ∷ [])
+    4
+
 -- one check over the rows
-pub scripts : map finds (first ∷ second ∷ third ∷ fourth ∷ []) ≡ map states (first ∷ second ∷ third ∷ fourth ∷ [])
+pub scripts : map finds (first ∷ second ∷ third ∷ fourth ∷ fifth ∷ []) ≡ map states (first ∷ second ∷ third ∷ fourth ∷ fifth ∷ [])
 unfolding tree
 scripts = refl
+
+-- the tail's blocks after the first n calls of the fifth
+abbrev tailAfter : ℕ → ℕ
+tailAfter n = run (fresh 5) (map (λ r. r .turn) (take n (fifth .rows))) .tail
+
+pub tails-after : map tailAfter (2 ∷ 3 ∷ 9 ∷ 10 ∷ 11 ∷ 14 ∷ 15 ∷ 16 ∷ 18 ∷ []) ≡ 0 ∷ 2 ∷ 1 ∷ 1 ∷ 0 ∷ 0 ∷ 1 ∷ 0 ∷ 0 ∷ []
+unfolding tree
+tails-after = refl

@@ -4,22 +4,23 @@
 -- Refusals 1 to 6 are conditions on the buffers, the others the machine's, in the document's order: 14 stands right after 3.
 -- Assumes nothing.
 use Prim.Native.Nat.{_%_, _*_, _+_, _-_, ℕ}
-use mathlib.Core.Bool.{_&&_, _||_, not}
+use mathlib.Core.Bool.{_&&_, _||_, cond, not}
 use mathlib.Core.List.{List, [], _++_, _∷_}
 use mathlib.Core.Option.{Option, none, some}
 use lib.Dec.{eqb, leb, ltb}
 use lib.ListN.{drop, getD, length, replicate, set, take}
-use Rattle.model.specs.Blocks.{blank, bytesAt, fieldsOf, label}
+use Rattle.block.specs.Write.{written}
+use Rattle.model.specs.Blocks.{Block, blank, bytesAt, fieldsOf, label}
 use Rattle.model.specs.Codec.{joined}
 use Rattle.model.specs.Entry.{empty, ownBytes}
 use Rattle.model.specs.Fitting.{fitsStore}
 use Rattle.model.specs.History.{Bytes, Commit, last, namer}
-use Rattle.model.specs.Machine.{Add, Answer, Call, Clears, Commits, Copy, Delete, Edit, Log, Move, Read, Revert, Show, Side, Status, Update, bytes, doing, done, entry, refused}
+use Rattle.model.specs.Machine.{Add, Answer, Call, Clears, ClearsCut, Commits, CommitsCut, Copy, Delete, Edit, Log, Move, Read, Revert, Show, Side, Status, Update, bytes, doing, done, entry, newCommit, refused, stopped}
 use Rattle.model.specs.Refusals.{Condition, _when_, conditions, firstOf, tailConditions}
 use Rattle.model.specs.Run.{Turn, asked}
-use Rattle.model.specs.Store.{bareOf, blockCount, blockUsed, checkedBut, lawfulBut, storeBlocks, storeHistory, tailOf, usedOf}
+use Rattle.model.specs.Store.{bareOf, blankFrom, blanks, blockCount, blockUsed, checkedBut, front, lawfulBut, storeBlocks, storeHistory, tailOf, usedOf}
 use Rattle.model.specs.WorkCopy.{copyBytes, copyOk, entriesOf, seatOf}
-use Rattle.model.specs.Writing.{withCommit}
+use Rattle.model.specs.Writing.{newBlocks, withCommit}
 
 -- ---- what the machine sees of the buffers
 
@@ -152,6 +153,35 @@ createCopy copy seat = createBy (firstOf (createCopyConditions copy seat)) copy 
 unfoldable pub clearCall : Bytes → Created
 clearCall store = createBy (storeRefusal store Clears) store (bareOf store)
 
+-- ---- commit and clearing, stopped after n block writes
+
+-- "Commit writes its content blocks in rising order, then its commit block.": from block U on
+abbrev pub commitWrites : Bytes → Bytes → ℕ → ℕ → List Block
+commitWrites store copy stamp mask = newBlocks (front (storeBlocks store)) (blanks (storeBlocks store)) (newCommit (sideIn store copy) stamp mask) []
+
+-- the store with these blocks written
+abbrev pub writtenFrom : Bytes → List Block → Bytes
+writtenFrom store bs = written (512 * usedOf store) (joined fieldsOf bs) store
+
+-- "it stops after n block writes, the working copy untouched, and answers that it stopped; with n enough for all its writes it is the usual call"
+abbrev pub stoppedBy : Option ℕ → Bytes → Bytes → ℕ → ℕ → ℕ → Out
+stoppedBy (some r) store copy stamp mask n = out (refused r) store copy
+stoppedBy none store copy stamp mask n =
+    let bs = commitWrites store copy stamp mask in
+    cond (leb (length bs) n) (changeBy none store copy (Commits stamp mask)) (out stopped (writtenFrom store (take n bs)) copy)
+
+unfoldable pub commitCutCall : Bytes → Bytes → ℕ → ℕ → ℕ → Out
+commitCutCall store copy stamp mask n = stoppedBy (refusalOf store copy (CommitsCut stamp mask n)) store copy stamp mask n
+
+-- "writing zero blocks from its highest block down"
+abbrev pub clearedBy : Option ℕ → Bytes → ℕ → Created
+clearedBy (some r) store n = record { says = refused r; buffer = store }
+clearedBy none store n =
+    cond (leb (tailOf store) n) (record { says = done; buffer = bareOf store }) (record { says = stopped; buffer = blankFrom (usedOf store + tailOf store - n) store })
+
+unfoldable pub clearCutCall : Bytes → ℕ → Created
+clearCutCall store n = clearedBy (storeRefusal store (ClearsCut n)) store n
+
 -- ---- looking: no buffer changes
 
 -- "answers the refusal, or buffer, place and length"; a place is a byte's number in that buffer. W3: of a part of the store also the last commit that names the sheet, up to the
@@ -237,6 +267,8 @@ call store copy (Show i) = out (showCall store copy i) store copy
 call store copy (Status i) = out (statusCall store copy i) store copy
 call store copy (Log R i) = out (logCall store R i) store copy
 call store copy Clears = out (clearCall store .says) (clearCall store .buffer) copy
+call store copy (CommitsCut stamp mask n) = commitCutCall store copy stamp mask n
+call store copy (ClearsCut n) = out (clearCutCall store n .says) (clearCutCall store n .buffer) copy
 
 -- the conditions of a call in the document's order, on the buffers that it takes
 abbrev pub conditionsIn : Bytes → Bytes → Call → List Condition
@@ -253,6 +285,8 @@ conditionsIn store copy (Show i) = bothConditions store copy (Show i)
 conditionsIn store copy (Status i) = bothConditions store copy (Status i)
 conditionsIn store copy (Log R i) = storeOnlyConditions store (Log R i)
 conditionsIn store copy Clears = storeOnlyConditions store Clears
+conditionsIn store copy (CommitsCut stamp mask n) = bothConditions store copy (CommitsCut stamp mask n)
+conditionsIn store copy (ClearsCut n) = storeOnlyConditions store (ClearsCut n)
 
 -- ---- a list of calls on one store and four working copies, each on what the one before left
 

@@ -2,17 +2,19 @@
 -- that holds, and then every buffer is unchanged; otherwise it is done as the machine does it. That every call is a total definition is the rest of it.
 -- Its proof is in laws/proofs/Demand1.
 -- Assumes nothing.
-use Prim.Native.Nat.{ℕ}
+use Prim.Native.Nat.{_-_, ℕ}
+use mathlib.Core.Bool.{cond}
 use mathlib.Core.List.{[], _∷_}
 use mathlib.Core.Logic.{_↔_}
 use mathlib.Core.Path.{_≡_}
-use Rattle.model.specs.Calls.{Created, Out, bothConditions, call, clearCall, conditionsIn, createCopy, createCopyConditions, createStore, freshCopy, freshStore, out, sideIn, sizeCondition, storeConditions, storeOnlyConditions, storeSide}
+use lib.Dec.{leb}
+use Rattle.model.specs.Calls.{Created, Out, bothConditions, call, clearCall, clearCutCall, conditionsIn, createCopy, createCopyConditions, createStore, freshCopy, freshStore, out, sideIn, sizeCondition, storeConditions, storeOnlyConditions, storeSide}
 use Rattle.model.specs.History.{Bytes}
-use Rattle.model.specs.Machine.{Call, Log, Read, doing, done, refused}
+use Rattle.model.specs.Machine.{Call, Log, Read, doing, done, refused, stopped}
 use Rattle.model.specs.Refusals.{Clear, First}
 use Rattle.model.specs.Run.{Typed}
 use Rattle.model.specs.Shows.{Seen}
-use Rattle.model.specs.Store.{blockCount, storeHistory, usedOf}
+use Rattle.model.specs.Store.{blockCount, storeHistory, tailOf, usedOf}
 use Rattle.model.specs.Tail.{Tailed}
 
 -- a call was done on the two buffers: it answers as the machine does on what they hold, and they hold what the machine leaves
@@ -24,6 +26,11 @@ pub record DoneOn (store copy : Bytes) (c : Call) (o : Out) : Type 0 where
 pub record Cleared (store : Bytes) (o : Created) : Type 0 where
   pub says : o .says ≡ done
   pub holds : Tailed (blockCount store) (o .buffer) (storeHistory store) (usedOf store) 0
+
+-- the same of clearing that may stop after n writes: what is left of the tail
+pub record ClearedSome (store : Bytes) (n : ℕ) (o : Created) : Type 0 where
+  pub says : o .says ≡ cond (leb (tailOf store) n) done stopped
+  pub holds : Tailed (blockCount store) (o .buffer) (storeHistory store) (usedOf store) (tailOf store - n)
 
 -- of one call on these bytes
 pub record Refuses (store copy : Bytes) (c : Call) : Type 0 where
@@ -39,8 +46,9 @@ pub record Demand1 (store copy : Bytes) : Type 0 where
   -- read and log, which take the store
   pub reads : (R i : ℕ) → Clear (storeOnlyConditions store (Read R i)) → call store copy (Read R i) ≡ out (doing (storeSide store) (Read R i) .0) store copy
   pub logs : (R i : ℕ) → Clear (storeOnlyConditions store (Log R i)) → call store copy (Log R i) ≡ out (doing (storeSide store) (Log R i) .0) store copy
-  -- clearing, which takes the store
+  -- clearing, which takes the store; stopped after n writes or not
   pub clears : Clear (storeConditions store) → Cleared store (clearCall store)
+  pub clears-cut : (n : ℕ) → Clear (storeConditions store) → ClearedSome store n (clearCutCall store n)
   -- create
   pub store-numbered : (n : ℕ) → (createStore store .says ≡ refused n) ↔ First (sizeCondition store ∷ []) n
   pub store-stays : (n : ℕ) → createStore store .says ≡ refused n → createStore store .buffer ≡ store

@@ -8,7 +8,7 @@ use mathlib.Core.Path.{_≡_}
 use lib.ListN.{drop, length, replicate, take}
 use Rattle.model.specs.Calls.{call, clearCall, commitCall, out, readPlace, showPlace, storeConditions}
 use Rattle.model.specs.History.{Bytes}
-use Rattle.model.specs.Machine.{Add, Call, Clears, Commits, Copy, Delete, Edit, Log, Move, Read, Revert, Show, Status, Update, done, refused}
+use Rattle.model.specs.Machine.{Add, Call, Clears, ClearsCut, Commits, CommitsCut, Copy, Delete, Edit, Log, Move, Read, Revert, Show, Status, Update, done, refused}
 use Rattle.model.specs.Refusals.{firstOf}
 use Rattle.model.specs.Store.{bareOf, storeHistory, tailOf, usedOf}
 
@@ -22,7 +22,7 @@ pub record Bare (store bare : Bytes) : Type 0 where
   pub front : take (512 * usedOf store) bare ≡ take (512 * usedOf store) store
   pub zeros : drop (512 * usedOf store) bare ≡ replicate (length store - 512 * usedOf store) 0
 
--- the calls but commit; clearing has a clause of its own
+-- the calls but commit; clearing has a clause of its own. The two that stop after n writes are W6's (Cut)
 abbrev pub Meanwhile : Call → Type 0
 Meanwhile (Add i x) = Unit {0}
 Meanwhile (Edit i x) = Unit {0}
@@ -37,6 +37,8 @@ Meanwhile (Show i) = Unit {0}
 Meanwhile (Status i) = Unit {0}
 Meanwhile (Log R i) = Unit {0}
 Meanwhile Clears = ⊥
+Meanwhile (CommitsCut stamp mask n) = ⊥
+Meanwhile (ClearsCut n) = ⊥
 
 pub record HalfWritten (store copy : Bytes) : Type 0 where
   pub bare : Bare store (bareOf store)

@@ -25,3 +25,5 @@ pub mod Ordered
 pub mod SameEdit
 pub mod SetBy
 pub mod HalfWritten
+pub mod Cut
+pub mod PowerCuts

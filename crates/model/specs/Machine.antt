@@ -5,7 +5,7 @@ use Prim.Native.Nat.{_%_, _+_, _-_, _/_, _^_, suc, ℕ}
 use mathlib.Core.Bool.{Bool, cond}
 use mathlib.Core.List.{List, [], _++_, _∷_}
 use mathlib.Core.Option.{Option, none, some}
-use lib.Dec.{eqb}
+use lib.Dec.{eqb, leb}
 use lib.ListN.{getD, replicate, set}
 use Rattle.model.specs.Entry.{Entry, added, changeFor, copied, deleted, empty, modified, normal, ownBytes}
 use Rattle.model.specs.History.{Bytes, Change, Commit, History, add, change, changeOf, commitAt, copy, delete, isBytes, last, namedAfter, namer, names, newest, nothing, present, sheet}
@@ -29,7 +29,8 @@ pub record Side : Type 0 where
   pub history : History
   pub entries : List Entry
 
--- the calls with their arguments: sheet and bytes; from and to; stamp and mask; mask and revision; revision and sheet. `Clears` clears the tail
+-- the calls with their arguments: sheet and bytes; from and to; stamp and mask; mask and revision; revision and sheet. `Clears` clears the tail. `CommitsCut` (stamp, mask, n)
+-- and `ClearsCut` (n) stop after n block writes
 pub data Call : Type 0 where
   Add Edit : ℕ → Bytes → Call
   Delete : ℕ → Call
@@ -41,12 +42,15 @@ pub data Call : Type 0 where
   Show Status : ℕ → Call
   Log : ℕ → ℕ → Call
   Clears : Call
+  CommitsCut : ℕ → ℕ → ℕ → Call
+  ClearsCut : ℕ → Call
 
--- what a call answers: the number of a refusal; that it is done; a commit's revision; a sheet's bytes, and a status, each with the last commit that names the sheet (W3); seat,
--- stamp, m, action, source sheet and source revision of a commit
+-- what a call answers: the number of a refusal; that it is done; that it stopped (W6); a commit's revision; a sheet's bytes, and a status, each with the last commit that names the
+-- sheet (W3); seat, stamp, m, action, source sheet and source revision of a commit
 pub data Answer : Type 0 where
   refused : ℕ → Answer
   done : Answer
+  stopped : Answer
   revision : ℕ → Answer
   bytes : Bytes → ℕ → Answer
   status : ℕ → ℕ → Answer
@@ -56,6 +60,7 @@ pub data Answer : Type 0 where
 abbrev pub refusal : Answer → Option ℕ
 refusal (refused n) = some n
 refusal done = none
+refusal stopped = none
 refusal (revision R) = none
 refusal (bytes x n) = none
 refusal (status s n) = none
@@ -246,7 +251,9 @@ source (copy s r x) = (s, r)
 abbrev pub logOf : Commit → ℕ → Answer
 logOf c i = logged (c .seat) (c .stamp) (total count (c .changes)) (number (changeOf c i)) (source (changeOf c i) .0) (source (changeOf c i) .1)
 
--- W3: read gives the number at its R, show from the store and status that of the last tree
+-- W3: read gives the number at its R, show from the store and status that of the last tree.
+-- W6: "it stops after n block writes, the working copy untouched, and answers that it stopped; with n enough for all its writes it is the usual call": a commit has k + 1 writes,
+-- clearing one for each block of the tail
 abbrev pub doing : Side → Call → Answer × Side
 doing d (Add i x) = (done, withEntry d i (added x))
 doing d (Edit i x) = (done, withEntry d i (edited x (entry d i)))
@@ -262,3 +269,6 @@ doing d (Show i) =
 doing d (Status i) = (status (statusOf (d .history) i (entry d i)) (namer (d .history) (last (d .history)) i), d)
 doing d (Log R i) = (logOf (commitAt (d .history) R) i, d)
 doing d Clears = (done, withTail d 0)
+doing d (CommitsCut stamp mask n) =
+    cond (leb (blocksFor (d .history) (commitChanges (d .history) mask (d .entries))) n) (revision (suc (last (d .history))), committing d stamp mask) (stopped, withTail d n)
+doing d (ClearsCut n) = cond (leb (d .tail) n) (done, withTail d 0) (stopped, withTail d (d .tail - n))

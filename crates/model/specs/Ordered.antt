@@ -48,10 +48,13 @@ pub record Ordered : Type 0 where
   pub another : (store : Bytes) (h : History) → LaidStore store h → ReadAs store h
   -- any list of calls on accepted buffers, in whatever order the store is written; of what they leave, a tail counts as zero blocks
   pub lists : (b : Buffers) (ts : List Turn) → AllAccepted b → AllValid ts → bareOf (runOn b ts .store) ≡ continued (b .store) (accepted (stateIn b) ts)
-  -- any list of calls from a fresh store of N blocks and four fresh copies: the bytes follow from N and the accepted commits alone
-  pub bytes : (N : ℕ) (ts : List Turn) → 2 ≤ N → N ≤ 4_096 → AllValid ts → runOn (freshBuffers N) ts .store ≡ storeBytes N (accepted (fresh N) ts)
+  -- any list of calls from a fresh store of N blocks and four fresh copies that leaves no tail ("W1 speaks of stores without a tail", W6): the bytes follow from N and the accepted
+  -- commits alone
+  pub bytes : (N : ℕ) (ts : List Turn) → 2 ≤ N → N ≤ 4_096 → AllValid ts → tailOf (runOn (freshBuffers N) ts .store) ≡ 0
+      → runOn (freshBuffers N) ts .store ≡ storeBytes N (accepted (fresh N) ts)
   -- "Two fresh stores of one size whose calls make the same history then hold equal bytes.", whatever the calls, seats and refusals were
-  pub equal : (N : ℕ) (ts us : List Turn) → 2 ≤ N → N ≤ 4_096 → AllValid ts → AllValid us → accepted (fresh N) ts ≡ accepted (fresh N) us
+  pub equal : (N : ℕ) (ts us : List Turn) → 2 ≤ N → N ≤ 4_096 → AllValid ts → AllValid us → tailOf (runOn (freshBuffers N) ts .store) ≡ 0 → tailOf (runOn (freshBuffers N) us .store) ≡ 0
+      → accepted (fresh N) ts ≡ accepted (fresh N) us
       → runOn (freshBuffers N) ts .store ≡ runOn (freshBuffers N) us .store
   -- and back: equal bytes are the same history
   pub back : (N : ℕ) (ts us : List Turn) → 2 ≤ N → N ≤ 4_096 → AllValid ts → AllValid us → runOn (freshBuffers N) ts .store ≡ runOn (freshBuffers N) us .store

@@ -10,7 +10,7 @@ use lib.Dec.{eqb, ltb}
 use lib.ListN.{length}
 use Rattle.model.specs.Entry.{Entry, added, copied, deleted, empty, isEmpty, modified, normal, ownBytes, pending}
 use Rattle.model.specs.History.{History, last, namedAfter, newest, present, sheet}
-use Rattle.model.specs.Machine.{Add, Call, Clears, Commits, Copy, Delete, Edit, Log, Move, Read, Revert, Show, Side, Status, Update, blocksFor, chosen, commitChanges, entry, shown, updatedTo}
+use Rattle.model.specs.Machine.{Add, Call, Clears, ClearsCut, Commits, CommitsCut, Copy, Delete, Edit, Log, Move, Read, Revert, Show, Side, Status, Update, blocksFor, chosen, commitChanges, entry, shown, updatedTo}
 use Rattle.model.specs.Rows.{some-row}
 
 infix 70 _when_
@@ -66,6 +66,10 @@ someConflict d mask R = some-row (λ i e. chosen mask i && conflict (d .history)
 abbrev pub noRoom : Side → ℕ → Bool
 noRoom d mask = ltb (d .blocks) (d .used + blocksFor (d .history) (commitChanges (d .history) mask (d .entries)))
 
+-- of a commit, whether it stops after n writes or not (W6)
+abbrev pub commitConditions : Side → ℕ → List Condition
+commitConditions d mask = 7 when eqb mask 0 ∷ 10 when nothingChosen d mask ∷ 11 when someStale d mask ∷ 13 when noRoom d mask ∷ []
+
 -- the lines that speak of a call, in the document's order: "a sheet number exceeds 31, bytes exceed 480, a mask is zero, or a revision exceeds the last (for log: or is 0)" (7);
 -- "edit, delete, copy or move from an empty or deleted entry; read of a sheet that tree R lacks; show of an empty or deleted entry whose sheet the last tree lacks" (8);
 -- "The entry to add, or the target of copy or move, isn't empty" (9)
@@ -75,7 +79,7 @@ conditions d (Edit i x) = 7 when (noSheet i || ltb 480 (length x)) ∷ 8 when no
 conditions d (Delete i) = 7 when noSheet i ∷ 8 when nothingIn (entry d i) ∷ []
 conditions d (Copy i j) = 7 when (noSheet i || noSheet j) ∷ 8 when nothingIn (entry d i) ∷ 9 when not (isEmpty (entry d j)) ∷ []
 conditions d (Move i j) = 7 when (noSheet i || noSheet j) ∷ 8 when nothingIn (entry d i) ∷ 9 when not (isEmpty (entry d j)) ∷ []
-conditions d (Commits stamp mask) = 7 when eqb mask 0 ∷ 10 when nothingChosen d mask ∷ 11 when someStale d mask ∷ 13 when noRoom d mask ∷ []
+conditions d (Commits stamp mask) = commitConditions d mask
 conditions d (Update mask R) = 7 when (eqb mask 0 || tooLate (d .history) R) ∷ 12 when someConflict d mask R ∷ []
 conditions d (Revert mask) = 7 when eqb mask 0 ∷ []
 conditions d (Read R i) = 7 when (noSheet i || tooLate (d .history) R) ∷ 8 when not (present (sheet (d .history) R i)) ∷ []
@@ -83,6 +87,8 @@ conditions d (Show i) = 7 when noSheet i ∷ 8 when not (present (shown (ownByte
 conditions d (Status i) = 7 when noSheet i ∷ []
 conditions d (Log R i) = 7 when (noSheet i || (eqb R 0 || tooLate (d .history) R)) ∷ []
 conditions d Clears = []
+conditions d (CommitsCut stamp mask n) = commitConditions d mask
+conditions d (ClearsCut n) = []
 
 -- "14, commit on a store that has a tail, checked right after 3"
 abbrev pub tailConditions : Side → Call → List Condition
@@ -99,6 +105,8 @@ tailConditions d (Show i) = []
 tailConditions d (Status i) = []
 tailConditions d (Log R i) = []
 tailConditions d Clears = []
+tailConditions d (CommitsCut stamp mask n) = 14 when not (eqb (d .tail) 0) ∷ []
+tailConditions d (ClearsCut n) = []
 
 -- the number of the first line that holds
 abbrev pub firstOf : List Condition → Option ℕ

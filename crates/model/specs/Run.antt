@@ -6,7 +6,7 @@ use mathlib.Core.List.{List, [], _++_, _∷_}
 use mathlib.Core.Option.{Option, none, some}
 use Rattle.block.specs.Lists.{All}
 use Rattle.model.specs.History.{Commit}
-use Rattle.model.specs.Machine.{Add, Answer, Call, Clears, Commits, Copy, Delete, Edit, Log, Move, Read, Revert, Show, Side, State, Status, Update, bytes, doing, done, logged, newCommit, put, refused, revision, sideOf, status}
+use Rattle.model.specs.Machine.{Add, Answer, Call, Clears, ClearsCut, Commits, CommitsCut, Copy, Delete, Edit, Log, Move, Read, Revert, Show, Side, State, Status, Update, bytes, doing, done, logged, newCommit, put, refused, revision, sideOf, status, stopped}
 use Rattle.model.specs.Refusals.{Condition, conditions, firstOf, tailConditions}
 
 -- the lines that are the machine's own, in the document's order
@@ -58,10 +58,13 @@ asked d (Show i) = []
 asked d (Status i) = []
 asked d (Log R i) = []
 asked d Clears = []
+asked d (CommitsCut stamp mask n) = newCommit d stamp mask ∷ []
+asked d (ClearsCut n) = []
 
 abbrev pub isRevision : Answer → Bool
 isRevision (refused n) = false
 isRevision done = false
+isRevision stopped = false
 isRevision (revision R) = true
 isRevision (bytes x n) = false
 isRevision (status s n) = false
@@ -90,6 +93,8 @@ Typed (Show i) = Unit {0}
 Typed (Status i) = Unit {0}
 Typed (Log R i) = Unit {0}
 Typed Clears = Unit {0}
+Typed (CommitsCut stamp mask n) = stamp < 2 ^ 32
+Typed (ClearsCut n) = Unit {0}
 
 pub record Valid (t : Turn) : Type 0 where
   pub low : 1 ≤ t .by

@@ -10,7 +10,7 @@ use mathlib.Core.Path.{_≡_}
 use lib.Dec.{eqb, ltb}
 use Rattle.model.specs.Calls.{Buffers, freshBuffers, inStore, logCall, readCall, readPlace, runOn, showCall, showPlace, statusCall}
 use Rattle.model.specs.History.{Bytes, History, changeOf, commitAt, last, namedAfter, names}
-use Rattle.model.specs.Machine.{Answer, bytes, done, fresh, logged, refused, revision, sameNamer, status}
+use Rattle.model.specs.Machine.{Answer, bytes, done, fresh, logged, refused, revision, sameNamer, status, stopped}
 use Rattle.model.specs.Run.{AllValid, Turn, accepted}
 use Rattle.model.specs.Store.{storeHistory}
 
@@ -32,6 +32,7 @@ pub record LastNamer (h : History) (R i n : ℕ) : Type 0 where
 abbrev pub actionIn : Answer → ℕ
 actionIn (refused n) = 0
 actionIn done = 0
+actionIn stopped = 0
 actionIn (revision R) = 0
 actionIn (bytes x n) = 0
 actionIn (status s n) = 0

@@ -4,11 +4,11 @@ use Prim.Native.Nat.{ℕ}
 use Rattle.model.specs.Calls.{Created, Place, inCopy, inStore, noPlace}
 use Rattle.model.specs.Entry.{Entry, added, copied, deleted, empty, normal}
 use Rattle.model.specs.History.{Bytes}
-use Rattle.model.specs.Machine.{Answer, done, logged, refused, revision, status}
+use Rattle.model.specs.Machine.{Answer, done, logged, refused, revision, status, stopped}
 use Rattle.model.specs.declared.Action.{Action}
 use Rattle.model.specs.declared.Action.the-variants.{Add, Change, Copy, Delete, Nothing}
 use Rattle.model.specs.declared.Answer.{Answer as TheAnswer}
-use Rattle.model.specs.declared.Answer.the-variants.{Done, Logged, Refused, Revision, Status}
+use Rattle.model.specs.declared.Answer.the-variants.{Done, Logged, Refused, Revision, Status, Stopped}
 use Rattle.model.specs.declared.Entry.{Entry as TheEntry}
 use Rattle.model.specs.declared.Place.{Place as ThePlace}
 use Rattle.model.specs.declared.Place.the-variants.{InCopy, InStore, Refused as NoPlace}
@@ -72,6 +72,7 @@ sourceRevision (Copy s) = s .revision
 abbrev pub answerOf : TheAnswer → Answer
 answerOf (Refused r) = refused (numberOf r)
 answerOf Done = done
+answerOf Stopped = stopped
 answerOf (Revision R) = revision R
 answerOf (Status s) = status (s .status) (s .revision)
 answerOf (Logged l) = logged (l .seat) (l .stamp) (l .changes) (actionNumber (l .action)) (sourceSheet (l .action)) (sourceRevision (l .action))

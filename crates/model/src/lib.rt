@@ -66,6 +66,7 @@ pub struct Standing {
 pub enum Answer {
     Refused(Refusal),
     Done,
+    Stopped,
     Revision(u32),
     Status(Standing),
     Logged(LogEntry),

@@ -8,7 +8,7 @@ use lib.Dec.{leb}
 use lib.ListN.{length}
 use Rattle.command.specs.Command.{lineTurn}
 use Rattle.model.specs.History.{Bytes}
-use Rattle.model.specs.Machine.{Answer, State, bytes, done, fresh, logged, refused, revision, status}
+use Rattle.model.specs.Machine.{Answer, State, bytes, done, fresh, logged, refused, revision, status, stopped}
 use Rattle.model.specs.Run.{Turn, step}
 use Rattle.text.specs.Text.{decimalOf, hexText, lines}
 
@@ -28,6 +28,7 @@ sheetText x = 111 ∷ 107 ∷ 32 ∷ (hexText x ++ (10 ∷ []))
 abbrev pub textOf : Answer → Bytes
 textOf (refused n) = 110 ∷ 111 ∷ 32 ∷ (decimalOf n ++ (10 ∷ []))
 textOf done = ok
+textOf stopped = ok
 textOf (revision R) = 111 ∷ 107 ∷ 32 ∷ (decimalOf R ++ (10 ∷ []))
 textOf (bytes x n) = sheetText x
 textOf (status s n) = ok

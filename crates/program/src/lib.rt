@@ -70,6 +70,7 @@ fn say_answer(out: &mut [u8], at: usize, answer: Answer) -> usize
         Answer::Revision(n) => say_number(out, at, b"ok ", n),
         Answer::Status(_) => say(out, at, b"ok\n"),
         Answer::Logged(_) => say(out, at, b"ok\n"),
+        Answer::Stopped => say(out, at, b"ok\n"),
     }
 }
 

@@ -15,7 +15,7 @@ use Rattle.inner.specs.Performs.{callOf}
 use Rattle.laws.proofs.All.{all-append}
 use Rattle.laws.proofs.Codec.{four-back, two-back}
 use Rattle.model.specs.History.{Bytes}
-use Rattle.model.specs.Machine.{Add, Call, Clears, Commits, Copy, Delete, Edit, Log, Move, Read, Revert, Show, Status, Update}
+use Rattle.model.specs.Machine.{Add, Call, Clears, ClearsCut, Commits, CommitsCut, Copy, Delete, Edit, Log, Move, Read, Revert, Show, Status, Update}
 use Rattle.model.specs.Run.{Turn, Typed}
 use Rattle.replay.specs.Encoding.{AllRecorded, Recorded, Row, recordBy, rowOf, scriptOf}
 use Rattle.replay.specs.Script.{bytesIn, callAs, callIn, recordOk, scriptOk, turnIn, turnsFrom, turnsOf}
@@ -50,24 +50,28 @@ module _ (seat : ℕ) (r : Row) (room : length (r .bytes) ≤ 496) where
   unfolding recordBy
   second-back = four-back (r .second)
 
+  third-back : fourAt (recordBy seat r) 12 ≡ r .third
+  unfolding recordBy
+  third-back = four-back (r .third)
+
   bytes-back : bytesIn (recordBy seat r) ≡ r .bytes
   unfolding recordBy
   bytes-back =
       ap (λ (n : ℕ). take n (r .bytes ++ replicate (496 - length (r .bytes)) 0)) (two-back (length (r .bytes)))
       ∙ take-at (r .bytes) (replicate (496 - length (r .bytes)) 0) (length (r .bytes)) refl
 
-  call-back : callIn (recordBy seat r) ≡ callAs (r .kind) (r .first) (r .second)
+  call-back : callIn (recordBy seat r) ≡ callAs (r .kind) (r .first) (r .second) (r .third)
   unfolding callIn
-  call-back = λ i. callAs (kind-back i) (first-back i) (second-back i)
+  call-back = λ i. callAs (kind-back i) (first-back i) (second-back i) (third-back i)
 
-  turn-back : turnIn (recordBy seat r) ≡ record { by = seat; call = callOf (callAs (r .kind) (r .first) (r .second)) (r .bytes) }
+  turn-back : turnIn (recordBy seat r) ≡ record { by = seat; call = callOf (callAs (r .kind) (r .first) (r .second) (r .third)) (r .bytes) }
   turn-back = λ i. record { by = seat-back i; call = callOf (call-back i) (bytes-back i) }
 
-  good-back : 1 ≤ r .kind → r .kind ≤ 13 → 1 ≤ seat → seat ≤ 4 → recordOk (recordBy seat r) ≡ true
+  good-back : 1 ≤ r .kind → r .kind ≤ 15 → 1 ≤ seat → seat ≤ 4 → recordOk (recordBy seat r) ≡ true
   unfolding recordOk
-  good-back lo hi low high = rw (kind-back, seat-back, count-back, le-leb 1 (r .kind) lo, le-leb (r .kind) 13 hi, le-leb 1 seat low, le-leb seat 4 high, le-leb (length (r .bytes)) 496 room)
+  good-back lo hi low high = rw (kind-back, seat-back, count-back, le-leb 1 (r .kind) lo, le-leb (r .kind) 15 hi, le-leb 1 seat low, le-leb seat 4 high, le-leb (length (r .bytes)) 496 room)
 
-row-back : (c : Call) → callOf (callAs (rowOf c .kind) (rowOf c .first) (rowOf c .second)) (rowOf c .bytes) ≡ c
+row-back : (c : Call) → callOf (callAs (rowOf c .kind) (rowOf c .first) (rowOf c .second) (rowOf c .third)) (rowOf c .bytes) ≡ c
 row-back (Add i x) = refl
 row-back (Edit i x) = refl
 row-back (Delete i) = refl
@@ -81,8 +85,10 @@ row-back (Show i) = refl
 row-back (Status i) = refl
 row-back (Log R i) = refl
 row-back Clears = refl
+row-back (CommitsCut stamp mask n) = refl
+row-back (ClearsCut n) = refl
 
-kind-in : (c : Call) → (1 ≤ rowOf c .kind) × (rowOf c .kind ≤ 13)
+kind-in : (c : Call) → (1 ≤ rowOf c .kind) × (rowOf c .kind ≤ 15)
 kind-in (Add i x) = (omega arith, omega arith)
 kind-in (Edit i x) = (omega arith, omega arith)
 kind-in (Delete i) = (omega arith, omega arith)
@@ -96,6 +102,8 @@ kind-in (Show i) = (omega arith, omega arith)
 kind-in (Status i) = (omega arith, omega arith)
 kind-in (Log R i) = (omega arith, omega arith)
 kind-in Clears = (omega arith, omega arith)
+kind-in (CommitsCut stamp mask n) = (omega arith, omega arith)
+kind-in (ClearsCut n) = (omega arith, omega arith)
 
 abbrev Byte : ℕ → Type 0
 Byte x = x < 256
@@ -114,6 +122,8 @@ typed-bytes (Show i) t = tt
 typed-bytes (Status i) t = tt
 typed-bytes (Log R i) t = tt
 typed-bytes Clears t = tt
+typed-bytes (CommitsCut stamp mask n) t = tt
+typed-bytes (ClearsCut n) t = tt
 
 all-four : (n : ℕ) → n < 2 ^ 32 → (l : Bytes) → All Byte l → All Byte (four n l)
 all-four n h l a = (omega arith, (omega arith, (omega arith, (omega (arith, h), a))))
@@ -142,9 +152,10 @@ module _ (t : Turn) (R : Recorded t) where
       let r : Row = rowOf (t .call) in
       let n = R .room in
       let rest = all-append Byte (r .bytes) (replicate (496 - length (r .bytes)) 0) (typed-bytes (t .call) (R .valid .typed)) (zero-bytes (496 - length (r .bytes))) in
-      let l : Bytes = 0 ∷ 0 ∷ 0 ∷ 0 ∷ (r .bytes ++ replicate (496 - length (r .bytes)) 0) in
-      let zeros : All Byte l = (omega arith, (omega arith, (omega arith, (omega arith, rest)))) in
-      (omega (arith, k .1), (omega (arith, R .valid .high), (omega arith, (omega (arith, n), all-four (r .first) (R .first) (four (r .second) l) (all-four (r .second) (R .second) l zeros)))))
+      let l : Bytes = r .bytes ++ replicate (496 - length (r .bytes)) 0 in
+      let numbers : All Byte (four (r .first) (four (r .second) (four (r .third) l))) =
+      all-four (r .first) (R .first) (four (r .second) (four (r .third) l)) (all-four (r .second) (R .second) (four (r .third) l) (all-four (r .third) (R .third) l rest)) in
+      (omega (arith, k .1), (omega (arith, R .valid .high), (omega arith, (omega (arith, n), numbers))))
 
 -- ---- one after the other
 

@@ -10,12 +10,12 @@ use lib.ListN.{drop, getD, length, length-replicate, length-set, set, take, take
 use Rattle.block.proofs.Writing.{length-written}
 use Rattle.block.specs.Buffer.{blockAt, withBlock}
 use Rattle.entries.proofs.Keeping.{accepted-fitting}
-use Rattle.laws.proofs.Accepted.{stays-accepted}
+use Rattle.laws.proofs.Accepted.{stays-accepted, turn-accepted}
 use Rattle.laws.proofs.All.{All-getD, all-drop, all-take}
 use Rattle.laws.proofs.Replaying.{replayed}
 use Rattle.model.specs.Calls.{Buffers, Out, afterTurn, answersOn, call, runOn, turnOn}
 use Rattle.model.specs.History.{Bytes}
-use Rattle.model.specs.Machine.{Answer, bytes, done, logged, refused, revision, status}
+use Rattle.model.specs.Machine.{Answer, bytes, done, logged, refused, revision, status, stopped}
 use Rattle.model.specs.Run.{AllValid, Turn, Valid, answers, run}
 use Rattle.model.specs.Shows.{Accepted, AllAccepted, Shows, stateIn}
 use Rattle.model.specs.Store.{blockCount}
@@ -26,7 +26,7 @@ use Rattle.model.specs.declared.Refusal.{Refusal}
 use Rattle.replay.proofs.Copies.{after, copy-is, length-copies, length-with, put-copies, upto}
 use Rattle.replay.proofs.Faults.{copies-size, copy-clear, room-enough, script-good, store-taken}
 use Rattle.replay.proofs.Running.{record-good}
-use Rattle.replay.proofs.Stepping.{good-limits, turn-accepted, turn-typed}
+use Rattle.replay.proofs.Stepping.{good-limits, turn-typed}
 use Rattle.replay.specs.Desk.{Desk, buffersIn, copyAt, desk, ranFrom, turned}
 use Rattle.replay.specs.Faults.{Checks}
 use Rattle.replay.specs.Records.{recordOf, recordsOf, zeros}
@@ -69,6 +69,7 @@ length-record : (a : Answer) → length (recordOf a) ≡ 512
 unfolding recordOf zeros
 length-record (refused n) = simp (length-set, length-replicate)
 length-record done = length-replicate {A = ℕ} 512 0
+length-record stopped = simp (length-set, length-replicate)
 length-record (revision R) = simp (length-set, length-replicate)
 length-record (bytes x n) = length-written 32 x _ ∙ simp (length-set, length-replicate)
 length-record (status s n) = simp (length-set, length-replicate)

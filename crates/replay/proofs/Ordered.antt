@@ -24,7 +24,7 @@ use Rattle.model.specs.Order.{continued, storeBytes}
 use Rattle.model.specs.Refusals.{Condition, _when_, firstOf}
 use Rattle.model.specs.Run.{AllValid, Turn, accepted, answers}
 use Rattle.model.specs.Shows.{AllAccepted, stateIn}
-use Rattle.model.specs.Store.{bareOf}
+use Rattle.model.specs.Store.{bareOf, tailOf}
 use Rattle.model.specs.Types.{answerOf}
 use Rattle.model.specs.declared.Answer.{Answer as TheAnswer}
 use Rattle.replay.proofs.Demand3.{was-done}
@@ -64,12 +64,12 @@ pub record ReplayOrdered : Type 2 where
   -- "From now on a commit writes its changes by rising sheet number, and its content blocks in the order of the changes that point to them.": behind the blocks in use, which stay, in
   -- whatever order they are, the commits that were accepted; a tail that is left counts as zero blocks
   pub scripts : {script store copies store′ : Bytes} → Ran script store copies store′ → bareOf store′ ≡ continued store (accepted (stateIn (buffersIn store copies)) (turnsOf script))
-  -- from a fresh store of N blocks and four fresh copies: the bytes follow from N and the accepted commits alone
+  -- from a fresh store of N blocks and four fresh copies, where no tail is left: the bytes follow from N and the accepted commits alone
   pub bytes : (N : ℕ) → 2 ≤ N → N ≤ 4_096 → {script store copies store′ : Bytes} → Ran script store copies store′ → buffersIn store copies ≡ freshBuffers N
-      → store′ ≡ storeBytes N (commitsOf N script)
+      → tailOf store′ ≡ 0 → store′ ≡ storeBytes N (commitsOf N script)
   -- "Two fresh stores of one size whose calls make the same history then hold equal bytes."
   pub equal : (N : ℕ) → 2 ≤ N → N ≤ 4_096 → {s t x y u v x′ u′ : Bytes} → Ran s x y x′ → Ran t u v u′ → buffersIn x y ≡ freshBuffers N → buffersIn u v ≡ freshBuffers N
-      → commitsOf N s ≡ commitsOf N t → x′ ≡ u′
+      → tailOf x′ ≡ 0 → tailOf u′ ≡ 0 → commitsOf N s ≡ commitsOf N t → x′ ≡ u′
   -- and back: equal bytes are the same history
   pub back : (N : ℕ) → 2 ≤ N → N ≤ 4_096 → {s t x y u v x′ u′ : Bytes} → Ran s x y x′ → Ran t u v u′ → buffersIn x y ≡ freshBuffers N → buffersIn u v ≡ freshBuffers N
       → x′ ≡ u′ → commitsOf N s ≡ commitsOf N t
@@ -147,11 +147,13 @@ replay-ordered = record {
   replay-meets = λ M. replay-met.met;
   another = any-layout;
   scripts = λ {script} {store} {copies} p. let o = ran-on p in ap bareOf (o .left) ∙ ordered .lists (buffersIn store copies) (turnsOf script) (o .taken) (o .valid);
-  bytes = λ N lo hi {script} p e. let o = ran-on p in fresh-left N o e ∙ ordered .bytes N (turnsOf script) lo hi (o .valid);
-  equal = λ N lo hi {s} {t} p q e f same.
+  bytes = λ N lo hi {script} p e z. let o = ran-on p in fresh-left N o e ∙ ordered .bytes N (turnsOf script) lo hi (o .valid) (ap tailOf (sym (fresh-left N o e)) ∙ z);
+  equal = λ N lo hi {s} {t} p q e f y z same.
       let o = ran-on p in
       let w = ran-on q in
-      fresh-left N o e ∙ ordered .equal N (turnsOf s) (turnsOf t) lo hi (o .valid) (w .valid) same ∙ sym (fresh-left N w f);
+      fresh-left N o e
+      ∙ ordered .equal N (turnsOf s) (turnsOf t) lo hi (o .valid) (w .valid) (ap tailOf (sym (fresh-left N o e)) ∙ y) (ap tailOf (sym (fresh-left N w f)) ∙ z) same
+      ∙ sym (fresh-left N w f);
   back = λ N lo hi {s} {t} p q e f same.
       let o = ran-on p in
       let w = ran-on q in

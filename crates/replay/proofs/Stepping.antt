@@ -3,28 +3,27 @@
 use Prim.Native.Nat.{_*_, _+_, _-_, _/_, _<_, _^_, _≤_, suc, ℕ}
 use mathlib.Core.Bool.{true}
 use mathlib.Core.List.{[], _++_}
-use mathlib.Core.Path.{_∙_, _≡_, ap, refl, subst, sym}
+use mathlib.Core.Path.{_∙_, _≡_, ap, subst, sym}
 use native.Mathlib.Omega.{arith}
 use borrow.Author.Tests.{leb-true}
 use lib.Dec.{eqb, leb}
-use lib.ListN.{drop, getD, length, length-set, set, take}
+use lib.ListN.{drop, getD, length, set, take}
 use Rattle.block.specs.Field.{fourAt, twoAt}
 use Rattle.block.specs.Lists.{All}
 use Rattle.entries.proofs.Checking.{fitting-accepted}
-use Rattle.entries.proofs.Keeping.{accepted-fitting, call-fitting}
-use Rattle.entries.specs.View.{Fitting, viewOf}
+use Rattle.entries.proofs.Keeping.{accepted-fitting}
+use Rattle.entries.specs.View.{Fitting}
 use Rattle.entries.specs.declared.View.{View}
 use Rattle.inner.proofs.Performing.{fitting-open}
 use Rattle.inner.specs.Performs.{Performs, Within, callOf, told}
 use Rattle.inner.specs.declared.Call.{Call}
 use Rattle.inner.specs.declared.Performed.{Performed}
 use Rattle.inner.specs.declared.Reply.{Reply}
-use Rattle.laws.proofs.Accepted.{accepted-seen, both, others-accepted, stays-accepted}
+use Rattle.laws.proofs.Accepted.{accepted-seen, both, turn-accepted}
 use Rattle.laws.proofs.All.{all-drop, all-take}
-use Rattle.laws.proofs.Rows.{cond-any, set-any}
-use Rattle.model.specs.Calls.{Buffers, Out, call}
+use Rattle.laws.proofs.Rows.{cond-any}
+use Rattle.model.specs.Calls.{Out, call}
 use Rattle.model.specs.History.{Bytes}
-use Rattle.model.specs.Machine.{Call as Call·}
 use Rattle.model.specs.Run.{Typed}
 use Rattle.model.specs.Shows.{Accepted, AllAccepted}
 use Rattle.model.specs.WorkCopy.{seatOf}
@@ -43,7 +42,7 @@ pub good-limits : (r : Bytes) → recordOk r ≡ true → (1 ≤ getD r 1 0) × 
 unfolding recordOk
 good-limits r e =
     let a = both (leb 1 (getD r 0 0)) _ e in
-    let b = both (leb (getD r 0 0) 13) _ (a .1) in
+    let b = both (leb (getD r 0 0) 15) _ (a .1) in
     let c = both (leb 1 (getD r 1 0)) _ (b .1) in
     let d = both (leb (getD r 1 0) 4) (leb (twoAt r 2) 496) (c .1) in
     (leb-true 1 (getD r 1 0) (c .0), leb-true (getD r 1 0) 4 (d .0), leb-true (twoAt r 2) 496 (d .1))
@@ -52,8 +51,8 @@ good-limits r e =
 called : (r : Bytes) {k : Call} {n : ℕ} → k ≡ callIn r → n ≡ twoAt r 2 → callOf k (take (16 + n - 16) (drop 16 r)) ≡ turnIn r .call
 called r {n = n} p q = let e : 16 + n - 16 ≡ twoAt r 2 = omega (arith, q) in λ i. callOf (p i) (take (e i) (drop 16 r))
 
-typed-call : (x : Bytes) → All (λ (y : ℕ). y < 256) x → (k a b : ℕ) → a < 2 ^ 32 → Typed (callOf (callAs k a b) x)
-typed-call x all k a b small =
+typed-call : (x : Bytes) → All (λ (y : ℕ). y < 256) x → (k a b c : ℕ) → a < 2 ^ 32 → Typed (callOf (callAs k a b c) x)
+typed-call x all k a b c small =
     cond-any P (eqb k 1) (λ e. all)
     (λ e. cond-any P (eqb k 2) (λ e. all)
     (λ e. cond-any P (eqb k 3) (λ e. tt)
@@ -65,7 +64,9 @@ typed-call x all k a b small =
     (λ e. cond-any P (eqb k 9) (λ e. tt)
     (λ e. cond-any P (eqb k 10) (λ e. tt)
     (λ e. cond-any P (eqb k 11) (λ e. tt)
-    (λ e. cond-any P (eqb k 12) (λ e. tt) (λ e. tt))))))))))))
+    (λ e. cond-any P (eqb k 12) (λ e. tt)
+    (λ e. cond-any P (eqb k 13) (λ e. tt)
+    (λ e. cond-any P (eqb k 14) (λ e. small) (λ e. tt))))))))))))))
   where
     P : Call → Type 0
     P c = Typed (callOf c x)
@@ -73,7 +74,7 @@ typed-call x all k a b small =
 pub turn-typed : (r : Bytes) → ((i : ℕ) → getD r i 0 < 256) → Typed (turnIn r .call)
 unfolding callIn
 turn-typed r f =
-    typed-call (bytesIn r) (all-take (λ (y : ℕ). y < 256) (twoAt r 2) (drop 16 r) (all-drop (λ (y : ℕ). y < 256) 16 r (all-bytes r f))) (getD r 0 0) (fourAt r 4) (fourAt r 8)
+    typed-call (bytesIn r) (all-take (λ (y : ℕ). y < 256) (twoAt r 2) (drop 16 r) (all-drop (λ (y : ℕ). y < 256) 16 r (all-bytes r f))) (getD r 0 0) (fourAt r 4) (fourAt r 8) (fourAt r 12)
     (omega (arith, f 4, f 5, f 6, f 7))
 
 -- ---- its seat's buffers
@@ -93,23 +94,6 @@ step-done r store copy v e n P q =
     record { stored = ap (λ (x : Out). x .store) o; copied = ap (λ (x : Out). x .copy) o; answer = q ∙ ap (λ (x : Out). recordOf (x .says)) o; fits = P .fits }
 
 -- ---- among the four
-
--- a call leaves the four copies accepted
-pub turn-accepted : (b : Buffers) → AllAccepted b → (k : ℕ) → k < 4 → (c : Call·) → Typed c
-    → AllAccepted (record { store = call (b .store) (getD (b .copies) k []) c .store; copies = set (b .copies) k (call (b .store) (getD (b .copies) k []) c .copy) })
-turn-accepted b A k low c ty =
-    let s : Bytes = b .store in
-    let x : Bytes = getD (b .copies) k [] in
-    let F = accepted-fitting s x (A .each k low) in
-    record {
-      four = length-set (b .copies) k (call s x c .copy) ∙ A .four;
-      each = λ j l.
-          set-any (Accepted (call s x c .store)) (b .copies) k j [] (λ z. stays-accepted s x (A .each k low) c ty)
-          (others-accepted s x (getD (b .copies) j []) (A .each k low) (A .each j l) c ty);
-      seats = λ j l.
-          set-any (λ (y : Bytes). seatOf y ≡ suc j) (b .copies) k j []
-          (λ z. sym (call-fitting s x (viewOf s x) F c ty refl refl refl .seat) ∙ A .seats k low ∙ ap suc (sym z)) (A .seats j l);
-    }
 
 module _ (store copies : Bytes) (h : Header) (S : Set store copies h) (k : ℕ) (low : k < 4) where
   mine : Accepted store (copyAt copies k)

@@ -9,7 +9,7 @@ use Rattle.block.specs.Field.{withFour}
 use Rattle.block.specs.Write.{written}
 use Rattle.engine.proofs.Fresh.{all-zero}
 use Rattle.model.specs.History.{Bytes}
-use Rattle.model.specs.Machine.{bytes, done, refused, revision, status}
+use Rattle.model.specs.Machine.{bytes, done, refused, revision, status, stopped}
 use Rattle.model.specs.Types.{actionNumber, answerOf, numberOf, sourceRevision, sourceSheet}
 use Rattle.model.specs.declared.Answer.{Answer}
 use Rattle.model.specs.declared.Answer.the-variants.{Logged}
@@ -31,6 +31,10 @@ module _ {l : Bytes} (z : l ≡ zeros) where
   pub done-record : l ≡ recordOf done
   unfolding recordOf
   done-record = z
+
+  pub stopped-record : {t : Bytes} → t ≡ withFour l 8 1 → t ≡ recordOf stopped
+  unfolding recordOf
+  stopped-record e = e ∙ ap (λ (x : Bytes). withFour x 8 1) z
 
   pub revision-record : (R : ℕ) {t : Bytes} → t ≡ withFour l 4 R → t ≡ recordOf (revision R)
   unfolding recordOf

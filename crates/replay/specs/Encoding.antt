@@ -5,7 +5,7 @@ use mathlib.Core.List.{List, [], _++_, _∷_}
 use lib.ListN.{length, replicate}
 use Rattle.block.specs.Field.{four, two}
 use Rattle.model.specs.History.{Bytes}
-use Rattle.model.specs.Machine.{Add, Call, Clears, Commits, Copy, Delete, Edit, Log, Move, Read, Revert, Show, Status, Update}
+use Rattle.model.specs.Machine.{Add, Call, Clears, ClearsCut, Commits, CommitsCut, Copy, Delete, Edit, Log, Move, Read, Revert, Show, Status, Update}
 use Rattle.model.specs.Run.{Turn, Valid}
 
 -- a call's kind, its numbers and its bytes
@@ -13,10 +13,12 @@ pub record Row : Type 0 where
   pub kind : ℕ
   pub first : ℕ
   pub second : ℕ
+  pub third : ℕ
   pub bytes : Bytes
 
+-- third is 0 but of a commit that stops after n writes
 abbrev pub row : ℕ → ℕ → ℕ → Bytes → Row
-row k a b x = record { kind = k; first = a; second = b; bytes = x }
+row k a b x = record { kind = k; first = a; second = b; third = 0; bytes = x }
 
 abbrev pub rowOf : Call → Row
 rowOf (Add i x) = row 1 i 0 x
@@ -32,9 +34,11 @@ rowOf (Show i) = row 10 i 0 []
 rowOf (Status i) = row 11 i 0 []
 rowOf (Log R i) = row 12 R i []
 rowOf Clears = row 13 0 0 []
+rowOf (CommitsCut stamp mask n) = record { kind = 14; first = stamp; second = mask; third = n; bytes = [] }
+rowOf (ClearsCut n) = row 15 n 0 []
 
 unfoldable pub recordBy : ℕ → Row → Bytes
-recordBy seat r = r .kind ∷ seat ∷ two (length (r .bytes)) (four (r .first) (four (r .second) (0 ∷ 0 ∷ 0 ∷ 0 ∷ (r .bytes ++ replicate (496 - length (r .bytes)) 0))))
+recordBy seat r = r .kind ∷ seat ∷ two (length (r .bytes)) (four (r .first) (four (r .second) (four (r .third) (r .bytes ++ replicate (496 - length (r .bytes)) 0))))
 
 abbrev pub scriptOf : List Turn → Bytes
 scriptOf [] = []
@@ -45,6 +49,7 @@ pub record Recorded (t : Turn) : Type 0 where
   pub valid : Valid t
   pub first : rowOf (t .call) .first < 2 ^ 32
   pub second : rowOf (t .call) .second < 2 ^ 32
+  pub third : rowOf (t .call) .third < 2 ^ 32
   pub room : length (rowOf (t .call) .bytes) ≤ 496
 
 abbrev pub AllRecorded : List Turn → Type 0

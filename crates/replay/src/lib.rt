@@ -40,7 +40,7 @@ fn record_ok(rec: &[u8]) -> bool
     if kind < 1 {
         return false;
     }
-    if 13 < kind {
+    if 15 < kind {
         return false;
     }
     if seat < 1 {
@@ -79,6 +79,7 @@ fn decode(rec: &[u8]) -> Call
     let kind = block::byte(rec, 0);
     let a = block::get32(rec, 4);
     let b = block::get32(rec, 8);
+    let c = block::get32(rec, 12);
     if kind == 1 {
         return Call::Add(a);
     }
@@ -115,7 +116,13 @@ fn decode(rec: &[u8]) -> Call
     if kind == 12 {
         return Call::Log(a, b);
     }
-    Call::Clear
+    if kind == 13 {
+        return Call::Clear;
+    }
+    if kind == 14 {
+        return Call::CommitCut(a, b, c);
+    }
+    Call::ClearCut(a)
 }
 
 // ---- the records of the answers
@@ -154,6 +161,7 @@ fn put_answer(rec: &mut [u8], answer: Answer)
         Answer::Revision(n) => block::put32(rec, 4, n),
         Answer::Status(standing) => put_standing(rec, standing),
         Answer::Logged(entry) => put_log(rec, entry),
+        Answer::Stopped => block::put32(rec, 8, 1),
     }
 }
 

@@ -4,16 +4,24 @@ use model::Answer;
 use model::LogEntry;
 use model::Place;
 ghost use mathlib.Core.Path.{_≡_};
-ghost use Rattle.model.specs.Calls.{addCall, clearCall, commitCall, copyCall, createCopy, createStore, deleteCall, editCall, logCall, moveCall, readPlace, revertCall, showPlace, statusCall, updateCall};
+ghost use Rattle.model.specs.Calls.{addCall, clearCall, clearCutCall, commitCall, commitCutCall, copyCall, createCopy, createStore, deleteCall, editCall, logCall, moveCall, readPlace, revertCall, showPlace, statusCall, updateCall};
 ghost use Rattle.model.specs.Types.{answerOf, placeOf};
 ghost use Rattle.model.specs.declared.Answer.the-variants.{Logged};
-ghost use Rattle.sheetstore.specs.Numbers.{answerNumbers, both, bothNumbers, copyNumbers, left, leftNumbers, logNumbers, noLog, noStanding, partNumbers, standingNumbers};
+ghost use Rattle.sheetstore.specs.Numbers.{answerNumbers, both, bothNumbers, copyNumbers, cutAs, cutBoth, cutBothNumbers, cutLeft, cutLeftNumbers, cutNumbers, left, leftNumbers, logNumbers, noLog, noStanding, partNumbers, standingNumbers};
 ghost use Rattle.sheetstore.specs.Replay.{ReplayNumbers};
 
 // A refusal's number, or 0 and the revision, if the call answers one.
 #[repr(C)]
 pub struct SheetsAnswer {
     pub refusal: u32,
+    pub value: u32,
+}
+
+// Of a call that stops after n block writes: a refusal's number, or 0 and 1 if it stopped, or 0, 0 and the revision, if the usual call answers one.
+#[repr(C)]
+pub struct SheetsCutAnswer {
+    pub refusal: u32,
+    pub stopped: u32,
     pub value: u32,
 }
 
@@ -47,7 +55,7 @@ pub struct SheetsLog {
     pub source_revision: u32,
 }
 
-// The numbers of an answer.
+// The numbers of an answer. Of the calls that answer them none stops.
 fn answer_numbers(answer: Answer) -> SheetsAnswer
     ensures { λ r. ⌜ r ≡ answerNumbers (answerOf answer) ⌝ }
 {
@@ -67,6 +75,39 @@ fn answer_numbers(answer: Answer) -> SheetsAnswer
         },
         Answer::Logged(_) => SheetsAnswer {
             refusal: 0,
+            value: 0,
+        },
+        Answer::Stopped => SheetsAnswer {
+            refusal: 0,
+            value: 0,
+        },
+    }
+}
+
+// It did not stop: a refusal's number, or 0, and a value.
+fn not_stopped(refusal: u32, value: u32) -> SheetsCutAnswer
+    ensures { λ r. ⌜ r ≡ cutAs refusal 0 value ⌝ }
+{
+    SheetsCutAnswer {
+        refusal,
+        stopped: 0,
+        value,
+    }
+}
+
+// The numbers of the answer of a call that stops after n block writes.
+fn cut_numbers(answer: Answer) -> SheetsCutAnswer
+    ensures { λ r. ⌜ r ≡ cutNumbers (answerOf answer) ⌝ }
+{
+    match answer {
+        Answer::Refused(k) => not_stopped(engine::number(k), 0),
+        Answer::Done => not_stopped(0, 0),
+        Answer::Revision(value) => not_stopped(0, value),
+        Answer::Status(_) => not_stopped(0, 0),
+        Answer::Logged(_) => not_stopped(0, 0),
+        Answer::Stopped => SheetsCutAnswer {
+            refusal: 0,
+            stopped: 1,
             value: 0,
         },
     }
@@ -129,6 +170,7 @@ fn standing_numbers(answer: Answer) -> SheetsStanding
             revision: s.revision,
         },
         Answer::Logged(_) => no_standing(0),
+        Answer::Stopped => no_standing(0),
     }
 }
 
@@ -173,6 +215,7 @@ fn log_numbers(answer: Answer) -> SheetsLog
         Answer::Revision(_) => untold(0),
         Answer::Status(_) => untold(0),
         Answer::Logged(entry) => told(entry),
+        Answer::Stopped => untold(0),
     }
 }
 
@@ -298,6 +341,28 @@ pub extern "C" fn sheets_clear(store: &mut [u8]) -> SheetsAnswer
     ensures { λ r. ⌜ left r (now (store .exit)) ≡ leftNumbers (clearCall (now (store .entry))) ⌝ }
 {
     answer_numbers(engine::clear(store))
+}
+
+// Commit, stopped after n block writes with the copy untouched; with n enough for all its writes it is `sheets_commit`.
+#[no_mangle]
+pub extern "C" fn sheets_commit_cut(
+    store: &mut [u8],
+    copy: &mut [u8],
+    stamp: u32,
+    mask: u32,
+    n: u32,
+) -> SheetsCutAnswer
+    ensures { λ r. ⌜ cutBoth r (now (store .exit)) (now (copy .exit)) ≡ cutBothNumbers (commitCutCall (now (store .entry)) (now (copy .entry)) stamp mask n) ⌝ }
+{
+    cut_numbers(engine::commit_cut(store, copy, stamp, mask, n))
+}
+
+// Clear, stopped after n block writes; with n enough for all its writes it is `sheets_clear`.
+#[no_mangle]
+pub extern "C" fn sheets_clear_cut(store: &mut [u8], n: u32) -> SheetsCutAnswer
+    ensures { λ r. ⌜ cutLeft r (now (store .exit)) ≡ cutLeftNumbers (clearCutCall (now (store .entry)) n) ⌝ }
+{
+    cut_numbers(engine::clear_cut(store, n))
 }
 
 // Where the bytes that a seat sees of a sheet stand: its own in the working copy, else the last revision's in the store.

@@ -1,18 +1,14 @@
 -- The last block that isn't all zero, from the end: what is left gives the whole.
 -- Assumes nothing.
-use Prim.Native.Nat.{_*_, _-_, _<_, _≤_, suc, ℕ}
+use Prim.Native.Nat.{_-_, _<_, _≤_, suc, ℕ}
 use mathlib.Core.Bool.{Bool, cond, false, true}
 use mathlib.Core.List.{List}
 use mathlib.Core.Path.{_∙_, _≡_, ap, ap₂, sym}
 use native.Mathlib.Omega.{arith}
-use lib.ListN.{drop, take}
-use Rattle.block.specs.Buffer.{blockAt}
 use Rattle.block.specs.Check.{isZero}
 use Rattle.model.specs.Store.{filledIn}
-use Rattle.store.proofs.Blocks.{lent, lent-is}
-
-pub lent-block : (l : List ℕ) (p : ℕ) → lent l p ≡ blockAt l p
-lent-block l p = let e : p * 512 ≡ 512 * p = omega arith in lent-is l p ∙ ap (λ (k : ℕ). take 512 (drop k l)) e
+use Rattle.laws.proofs.Parts.{lent-block}
+use Rattle.store.proofs.Blocks.{lent}
 
 pub filled-none : (l : List ℕ) (f w : ℕ) → filledIn f l ≡ w → f ≤ 0 → 0 ≡ w
 unfolding filledIn

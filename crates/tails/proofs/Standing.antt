@@ -4,11 +4,11 @@ use Prim.Native.Nat.{_*_, _+_, _-_, _<_, _≤_, suc, zero, ℕ}
 use mathlib.Core.Bool.{Bool, false, not, true}
 use mathlib.Core.List.{List, [], _++_, _∷_, append-assoc, append-nil, map}
 use mathlib.Core.Logic.{inl, inr}
-use mathlib.Core.Path.{_∙_, _≡_, ap, ap₂, refl, subst, sym}
+use mathlib.Core.Path.{_∙_, _≡_, ap, refl, subst, sym}
 use native.Mathlib.Omega.{arith}
 use borrow.Author.Tests.{eq-eqb, ne-eqb}
 use lib.Dec.{eqb}
-use lib.ListN.{drop, getD, length, length-append, length-map, replicate, take}
+use lib.ListN.{getD, length, length-append, length-map, replicate, take}
 use lib.Seq.{take-at}
 use Rattle.block.proofs.Says.{eq-or, lt-or-ge}
 use Rattle.block.specs.Buffer.{blockAt}
@@ -87,12 +87,6 @@ module _ (N : ℕ) (store : Bytes) (h : History) (used t : ℕ) (X : Tailed N st
       let z : length store - 512 * (used + t) ≡ 512 * (N - used - t) = omega (arith, length-store N store h used t X, X .room) in
       ap (λ (k : ℕ). take (512 * (used + t)) store ++ replicate {A = ℕ} k 0) z
       ∙ ap (λ (x : List ℕ). take (512 * (used + t)) x ++ zs) s ∙ ap (λ (x : List ℕ). x ++ zs) (take-at A zs (512 * (used + t)) n) ∙ sym s
-
-pub lent-at : (l : List ℕ) (p : ℕ) → take (p * 512 + 512 - p * 512) (drop (p * 512) l) ≡ blockAt l p
-lent-at l p =
-    let k : p * 512 + 512 - p * 512 ≡ 512 = omega arith in
-    let d : p * 512 ≡ 512 * p = omega arith in
-    ap₂ (λ (x y : ℕ). take x (drop y l)) k d
 
 -- ---- an accepted store
 

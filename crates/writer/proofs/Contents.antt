@@ -1,13 +1,11 @@
 -- The content blocks of a commit, written one by one from a working copy; and a writing that stops after n blocks.
 -- Assumes nothing.
 use Prim.Native.Nat.{_*_, _+_, _-_, _<_, _≤_, suc, zero, ℕ}
-use mathlib.Core.Bool.{Bool, cond, false, true}
-use mathlib.Core.List.{List, [], _++_, _∷_, append-nil, map}
+use mathlib.Core.List.{_++_, _∷_, List, [], append-nil, map}
 use mathlib.Core.Path.{_∙_, _≡_, ap, ap₂, refl, sym}
 use native.Mathlib.Numerals.{add-one}
 use native.Mathlib.Omega.{arith}
 use borrow.Author.Tests.{eq-eqb, ne-eqb}
-use lib.Dec.{eqb}
 use lib.ListN.{drop, getD, length, length-append, length-map, length-take, take}
 use lib.Seq.{drop-drop, getD-drop, take-all, take-append-le, take-nil}
 use Rattle.block.proofs.Writing.{written-both, written-none}
@@ -115,23 +113,6 @@ module _ (bytes : ℕ → List ℕ) (n used next left r seat stamp : ℕ) (ls : 
         bytes = commit-last used next (map (content r) cs) c s s₁ s₂ n′ b e₂ ∙ ap (λ (x : List Block). written (512 * used) (joined fieldsOf x) s) d;
         count = omega (arith, n′, length-append (map (content r) cs) (c ∷ []), ap length d);
       }
-
-contents-few : (bytes : ℕ → List ℕ) (ls : List Line) (p : ℕ) → length (contentsBy bytes p ls) ≤ length ls
-unfolding contentsBy
-contents-few bytes [] p = omega arith
-contents-few bytes (l ∷ ls) p = go (eqb (l .block) p) (contentsBy bytes (suc p) ls) (contentsBy bytes p ls) (contents-few bytes ls (suc p)) (contents-few bytes ls p)
-  where
-    go : (t : Bool) (x y : List (List ℕ)) → length x ≤ length ls → length y ≤ length ls → length (cond t (bytes (l .sheet) ∷ x) y) ≤ suc (length ls)
-    go true x y u v = omega arith
-    go false x y u v = omega arith
-
--- with n enough for all its writes it is the whole
-pub cut-enough : (bytes : ℕ → List ℕ) (n used r seat stamp : ℕ) (ls : List Line) → length ls < n → take n (commitBlocks bytes used r seat stamp ls) ≡ commitBlocks bytes used r seat stamp ls
-unfolding commitBlocks
-cut-enough bytes n used r seat stamp ls h =
-    let cs = contentsBy bytes used ls in
-    take-all n (map (content r) cs ++ (commit r seat stamp ls ∷ []))
-    (omega (arith, length-append (map (content r) cs) (commit r seat stamp ls ∷ []), length-map cs (content r), contents-few bytes ls used))
 
 -- ---- the loop over the lines, n contents at most: what is left to write gives the whole
 take-one : {A : Type 0} (k : ℕ) (x : A) (l : List A) → (k ≡ 0 → ⊥) → take k (x ∷ l) ≡ x ∷ take (k - 1) l

@@ -95,7 +95,7 @@ module _ (bs : List Block) (h : History) (L : Lays bs h) (c : Commit) (bytes : �
   abbrev blocks : List Block
   blocks = commitBlocks bytes (length (front bs)) (suc (last h)) (c .seat) (c .stamp) (newLines (front bs) (blanks bs) c)
 
-  blocks-new : blocks ≡ newBlocks (front bs) (blanks bs) c []
+  pub blocks-new : blocks ≡ newBlocks (front bs) (blanks bs) c []
   unfolding commitBlocks
   blocks-new =
       ap₂ (λ (r : ℕ) (x : List (List ℕ)). map (content r) x ++ (commit r (c .seat) (c .stamp) (newLines (front bs) (blanks bs) c) ∷ []))

@@ -196,20 +196,3 @@ pub fn write_some<'a>(
     put_commit_block(store, next, revision, seat, stamp, lines, m);
     next + 1
 }
-
-// Writes a whole commit: no more than 33 blocks. The number of blocks that are used then.
-pub fn write_commit<'a>(
-    store: &mut [u8],
-    used: usize,
-    revision: usize,
-    seat: u8,
-    stamp: u32,
-    lines: [Line; 32],
-    m: usize,
-    copy: &'a [u8],
-) -> usize
-    requires { ⌜ Writable (now store) used revision lines m (now copy) ⌝ }
-    ensures { λ r. ⌜ Wrote (now (store .entry)) (now (store .exit)) used r (commitBlocks (sheetIn (now (copy .entry))) used revision seat stamp (linesFrom lines 0 m)) ⌝ }
-{
-    write_some(store, 33, used, revision, seat, stamp, lines, m, copy)
-}

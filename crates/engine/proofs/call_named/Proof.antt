@@ -94,6 +94,18 @@ enum-told c = search needs
 clear-requires : tie.Need-clear-requires
 clear-requires c κs = search needs
 
+enum-known-named-13 : tie.Need-enum-known-named-13
+enum-known-named-13 c = search needs
+
+commit-cut-requires : tie.Need-commit-cut-requires
+commit-cut-requires c κs = search needs
+
+enum-known-named-14 : tie.Need-enum-known-named-14
+enum-known-named-14 c = search needs
+
+clear-cut-requires : tie.Need-clear-cut-requires
+clear-cut-requires c κs = search needs
+
 same-length : tie.Need-same-length
 same-length c = search needs
 
@@ -212,6 +224,25 @@ returns-13 c =
     let a = c .before .before .before .before .before .before .before .before .before .args in
     (meant (a .store .now) (a .copy .now) (a .bytes .now) (c .before .before .before .before .enum-told .given .1) (ap (λ (o : Created). answered (says (o .says)) (o .buffer) (a .copy .now)) (c .before .before .clear .ensures)), tt)
 
+same-length-24 : tie.Need-same-length-24
+same-length-24 c = search needs
+
+same-length-25 : tie.Need-same-length-25
+same-length-25 c = search needs
+
+returns-14 : tie.Need-returns-14
+returns-14 c =
+    let a = c .before .before .before .before .before .before .before .before .before .before .before .before .before .args in
+    (meant (a .store .now) (a .copy .now) (a .bytes .now) (c .before .before .before .before .before .before .before .before .named13 .given .1) (ap outSaid (c .before .before .before .before .commit-cut .ensures)), tt)
+
+same-length-26 : tie.Need-same-length-26
+same-length-26 c = search needs
+
+returns-15 : tie.Need-returns-15
+returns-15 c =
+    let a = c .before .before .before .before .before .before .before .before .before .before .args in
+    (meant (a .store .now) (a .copy .now) (a .bytes .now) (c .before .before .before .before .before .named14 .given .1) (ap (λ (o : Created). answered (says (o .says)) (o .buffer) (a .copy .now)) (c .before .before .clear-cut .ensures)), tt)
+
 pub call-named-spec : {M : Type 1} → statement M
 call-named-spec =
     tie.close
@@ -242,6 +273,10 @@ call-named-spec =
     log-requires
     enum-told
     clear-requires
+    enum-known-named-13
+    commit-cut-requires
+    enum-known-named-14
+    clear-cut-requires
     same-length
     same-length-2
     returns
@@ -277,4 +312,9 @@ call-named-spec =
     same-length-22
     returns-12
     same-length-23
-    returns-13)
+    returns-13
+    same-length-24
+    same-length-25
+    returns-14
+    same-length-26
+    returns-15)

@@ -1,44 +1,19 @@
--- `engine::clear` meets its contract: the refusal of `open`, or the tail of an open store cleared.
+-- `engine::clear` meets its contract: 33 block writes are enough to clear a tail.
 -- Assumes nothing.
-use mathlib.Core.Path.{_∙_, sym}
-use Rattle.inner.proofs.Clearing.{clear-refused}
+use mathlib.Core.Path.{_∙_}
+use Rattle.laws.proofs.Cuts.{whole-clear}
 use borrow.Author.Needs.{needs}
 use Rattle.engine.proofs.clear.Statement.{statement}
 use Rattle.engine.proofs.clear.Tie as tie
 
-open-requires : tie.Need-open-requires
-open-requires c κs = search needs
-
-enum-known-opened : tie.Need-enum-known-opened
-enum-known-opened c = search needs
-
-enum-known-opened-2 : tie.Need-enum-known-opened-2
-enum-known-opened-2 c = search needs
-
-clear-in-requires : tie.Need-clear-in-requires
-clear-in-requires c κs = sym (c .before .before .before .before .«open» .ensures) ∙ c .before .before .opened2 .given .1
+clear-cut-requires : tie.Need-clear-cut-requires
+clear-cut-requires c κs = search needs
 
 same-length : tie.Need-same-length
 same-length c = search needs
 
 returns : tie.Need-returns
-returns c = clear-refused (c .before .before .before .before .before .before .args .store .now) (c .before .opened .given .0 .0) (sym (c .before .before .before .«open» .ensures) ∙ c .before .opened .given .1)
-
-same-length-2 : tie.Need-same-length-2
-same-length-2 c = search needs
-
-returns-2 : tie.Need-returns-2
-returns-2 c = search needs
+returns c = c .before .before .clear-cut .ensures ∙ whole-clear (c .before .before .before .before .before .args .store .now)
 
 pub clear-spec : {M : Type 1} → statement M
-clear-spec =
-    tie.close
-    (tie.spec
-    open-requires
-    enum-known-opened
-    enum-known-opened-2
-    clear-in-requires
-    same-length
-    returns
-    same-length-2
-    returns-2)
+clear-spec = tie.close (tie.spec clear-cut-requires same-length returns)

@@ -1,9 +1,9 @@
--- `engine::commit_open` meets its contract: refused for a tail, then as the check says, or done as the inner commit does it.
+-- `engine::commit_open` meets its contract: refused for a tail, then as the check says, or done as the inner commit does it, n block writes at most.
 -- Assumes nothing.
 use mathlib.Core.Path.{_∙_, sym}
-use Rattle.model.specs.Machine.{Commits}
 use Rattle.entries.proofs.Checking.{check-ready}
-use Rattle.inner.proofs.Changing.{commit-tailed, inner-done, refused-call}
+use Rattle.inner.proofs.Changing.{cut-refused, cut-tailed}
+use Rattle.filing.proofs.Keeping.{inner-cut}
 use Rattle.inner.proofs.Clearing.{open-taken}
 use Rattle.inner.proofs.Performing.{untailed}
 use borrow.Author.Needs.{needs}
@@ -20,7 +20,7 @@ returns : tie.Need-returns
 returns c =
     let k = c .before .before .before .before .before in
     let a = k .args in
-    commit-tailed (a .store .now) (a .copy .now) (a .stamp) (a .mask) (open-taken (a .store .now) (a .h) (k .pre) .clear) (sym (c .before .has .ensures) ∙ c .if1 .taken)
+    cut-tailed (a .store .now) (a .copy .now) (a .stamp) (a .mask) (a .n) (open-taken (a .store .now) (a .h) (k .pre) .clear) (sym (c .before .has .ensures) ∙ c .if1 .taken)
 
 check-copy-requires : tie.Need-check-copy-requires
 check-copy-requires c κs = search needs
@@ -47,7 +47,7 @@ same-length-3 c = search needs
 returns-2 : tie.Need-returns-2
 returns-2 c =
     let a = c .before .before .before .before .before .before .before .before .before .before .before .args in
-    refused-call (a .store .now) (a .copy .now) (c .before .c .given .0 .0) (Commits (a .stamp) (a .mask)) (sym (c .before .before .before .before .before .before .before .has .ensures) ∙ c .before .before .before .before .before .before .if1 .left, tt)
+    cut-refused (a .store .now) (a .copy .now) (c .before .c .given .0 .0) (a .stamp) (a .mask) (a .n) (sym (c .before .before .before .before .before .before .before .has .ensures) ∙ c .before .before .before .before .before .before .if1 .left, tt)
     (sym (c .before .before .before .check-copy .ensures) ∙ c .before .c .given .1)
 
 same-length-4 : tie.Need-same-length-4
@@ -59,8 +59,9 @@ same-length-5 c = search needs
 returns-3 : tie.Need-returns-3
 returns-3 c =
     let a = c .before .before .before .before .before .before .before .before .before .before .before .before .before .before .before .before .before .before .args in
-    inner-done (a .store .now) (a .copy .now) (c .before .before .before .before .before .before .before .before .c2 .given .0 .0) (Commits (a .stamp) (a .mask)) (sym (c .before .before .before .before .before .before .before .before .before .before .before .before .before .before .has .ensures) ∙ c .before .before .before .before .before .before .before .before .before .before .before .before .before .if1 .left, tt)
-    (sym (c .before .before .before .before .before .before .before .before .before .before .check-copy .ensures) ∙ c .before .before .before .before .before .before .before .before .c2 .given .1) (c .before .before .before .before .commit .ensures .is)
+    let v = c .before .before .before .before .before .before .before .before .c2 .given .0 .0 in
+    let F = check-ready (a .store .now) (a .copy .now) v (sym (c .before .before .before .before .before .before .before .before .before .before .check-copy .ensures) ∙ c .before .before .before .before .before .before .before .before .c2 .given .1) in
+    c .before .before .before .before .commit .ensures .is ∙ inner-cut (a .store .now) (a .copy .now) v F (a .stamp) (a .mask) (a .n) (sym (c .before .before .before .before .before .before .before .before .before .before .before .before .before .before .has .ensures) ∙ c .before .before .before .before .before .before .before .before .before .before .before .before .before .if1 .left)
 
 pub commit-open-spec : {M : Type 1} → statement M
 commit-open-spec =

@@ -2,12 +2,14 @@
 -- Assumes nothing.
 use native.Mathlib.Omega.{arith}
 use borrow.Author.Needs.{needs}
-use Rattle.model.specs.Machine.{Add, Copy, Delete, Edit, Move, Revert, Update}
-use Rattle.inner.proofs.Performing.{clears, files, fitting-open, inner-is, local-is, logs, meant, reads, shows, states, stays}
+use Rattle.model.specs.Machine.{Add, Commits, CommitsCut, Copy, Delete, Edit, Move, Revert, Update}
+use Rattle.inner.proofs.Performing.{clears, clears-cut, files, fitting-open, inner-is, local-is, logs, meant, reads, shows, states, stays, whole}
 use Rattle.inner.proofs.perform.Statement.{statement}
 use Rattle.inner.proofs.perform.Tie as tie
 use Rattle.inner.specs.declared.Reply.the-variants.{Said}
 use Rattle.workcopy.proofs.Scan.{all-bytes}
+use Rattle.laws.proofs.Cuts.{whole-clear}
+use mathlib.Core.Path.{_∙_}
 
 enum-known-call : tie.Need-enum-known-call
 enum-known-call c = search needs
@@ -123,6 +125,27 @@ clear-in-requires c κs = let k = c .before .before .before .before .before .bef
 stay-requires-12 : tie.Need-stay-requires-12
 stay-requires-12 c κs = search needs
 
+enum-known-call-13 : tie.Need-enum-known-call-13
+enum-known-call-13 c = search needs
+
+cast-commit-in : tie.Need-cast-commit-in
+cast-commit-in c = search needs
+
+commit-in-requires-2 : tie.Need-commit-in-requires-2
+commit-in-requires-2 c κs = search needs
+
+enum-known-call-14 : tie.Need-enum-known-call-14
+enum-known-call-14 c = search needs
+
+cast-clear-in : tie.Need-cast-clear-in
+cast-clear-in c = search needs
+
+clear-in-requires-2 : tie.Need-clear-in-requires-2
+clear-in-requires-2 c κs = let k = c .before .before .before .before .before .before .before in fitting-open (k .args .store .now) (k .args .copy .now) (k .args .v) (k .pre)
+
+stay-requires-13 : tie.Need-stay-requires-13
+stay-requires-13 c κs = search needs
+
 same-length : tie.Need-same-length
 same-length c = search needs
 
@@ -195,7 +218,8 @@ returns-6 c =
     let F = c .before .before .before .before .before .before .before .before .before .before .before .before .before .pre in
     let g = c .before .before .before .before .before .before .before .before .call6 .given in
     meant (a .store .now) (a .copy .now) (a .v) F (a .bytes .now) (g .1)
-    (files (a .store .now) (a .copy .now) (a .v) F (g .0 .0) (g .0 .1 .0) (omega (arith, c .before .before .before .before .before .before .before .known-told6 .given)) (c .before .before .before .before .commit-in .result) (c .before .before .before .before .commit-in .ensures))
+    (files (a .store .now) (a .copy .now) (a .v) F (Commits (g .0 .0) (g .0 .1 .0)) (omega (arith, c .before .before .before .before .before .before .before .known-told6 .given)) (c .before .before .before .before .commit-in .result)
+    (whole (a .store .now) (a .copy .now) (a .v) F (g .0 .0) (g .0 .1 .0) (omega (arith, c .before .before .before .before .before .before .before .known-told6 .given)) (c .before .before .before .before .commit-in .ensures)))
 
 same-length-8 : tie.Need-same-length-8
 same-length-8 c = search needs
@@ -281,7 +305,33 @@ returns-13 c =
     let a = c .before .before .before .before .before .before .before .before .before .before .args in
     let F = c .before .before .before .before .before .before .before .before .before .before .pre in
     meant (a .store .now) (a .copy .now) (a .v) F (a .bytes .now) (c .before .before .before .before .before .enum-told .given .1)
-    (clears (a .store .now) (a .copy .now) (a .v) F (c .before .before .before .clear-in .result) (c .before .before .before .clear-in .ensures) (c .stay12 .ensures))
+    (clears (a .store .now) (a .copy .now) (a .v) F (c .before .before .before .clear-in .result) (c .before .before .before .clear-in .ensures ∙ whole-clear (a .store .now)) (c .stay12 .ensures))
+
+same-length-19 : tie.Need-same-length-19
+same-length-19 c = search needs
+
+same-length-20 : tie.Need-same-length-20
+same-length-20 c = search needs
+
+returns-14 : tie.Need-returns-14
+returns-14 c =
+    let s = c .before .before .before .before .before .before .before .before .before .before .before .before .before in
+    let a = s .args in
+    let g = c .before .before .before .before .before .before .before .before .call13 .given in
+    meant (a .store .now) (a .copy .now) (a .v) (s .pre) (a .bytes .now) (g .1)
+    (files (a .store .now) (a .copy .now) (a .v) (s .pre) (CommitsCut (g .0 .0) (g .0 .1 .0) (g .0 .1 .1 .0)) (omega (arith, c .before .before .before .before .before .before .before .known-told13 .given)) (c .before .before .before .before .commit-in2 .result) (c .before .before .before .before .commit-in2 .ensures))
+
+same-length-21 : tie.Need-same-length-21
+same-length-21 c = search needs
+
+returns-15 : tie.Need-returns-15
+returns-15 c =
+    let s = c .before .before .before .before .before .before .before .before .before .before .before in
+    let a = s .args in
+    let g = c .before .before .before .before .before .before .call14 .given in
+    let r = c .before .before .before .clear-in2 in
+    meant (a .store .now) (a .copy .now) (a .v) (s .pre) (a .bytes .now) (g .1)
+    (clears-cut (a .store .now) (a .copy .now) (a .v) (s .pre) (g .0 .0) (r .result) (r .ensures) (c .stay13 .ensures))
 
 pub perform-spec : {M : Type 1} → statement M
 perform-spec =
@@ -325,6 +375,13 @@ perform-spec =
     enum-told
     clear-in-requires
     stay-requires-12
+    enum-known-call-13
+    cast-commit-in
+    commit-in-requires-2
+    enum-known-call-14
+    cast-clear-in
+    clear-in-requires-2
+    stay-requires-13
     same-length
     returns
     same-length-2
@@ -355,4 +412,9 @@ perform-spec =
     same-length-17
     returns-12
     same-length-18
-    returns-13)
+    returns-13
+    same-length-19
+    same-length-20
+    returns-14
+    same-length-21
+    returns-15)

@@ -61,6 +61,15 @@ slice-aggregate-say-3 c = search needs
 say-requires-3 : tie.Need-say-requires-3
 say-requires-3 c κs = search needs
 
+enum-told-4 : tie.Need-enum-told-4
+enum-told-4 c = search needs
+
+slice-aggregate-say-4 : tie.Need-slice-aggregate-say-4
+slice-aggregate-say-4 c = search needs
+
+say-requires-4 : tie.Need-say-requires-4
+say-requires-4 c κs = search needs
+
 same-length : tie.Need-same-length
 same-length c = search needs
 
@@ -114,6 +123,16 @@ returns-5 c =
     let s = said-as (x .result) (a .at) ok (textOf (answerOf (a .answer))) (x .last .0) (a .out .now) (x .ensures .0) (x .ensures .1) (ap (λ (k : Answer). textOf (answerOf k)) (sym (c .before .before .before .before .before .enum-told3 .given .1))) in
     (s .0, (s .1, omega (arith, x .ensures .0)))
 
+same-length-6 : tie.Need-same-length-6
+same-length-6 c = search needs
+
+returns-6 : tie.Need-returns-6
+returns-6 c =
+    let a = c .before .before .before .before .before .before .before .before .args in
+    let x = c .before .before .say4 in
+    let s = said-as (x .result) (a .at) ok (textOf (answerOf (a .answer))) (x .last .0) (a .out .now) (x .ensures .0) (x .ensures .1) (ap (λ (k : Answer). textOf (answerOf k)) (sym (c .before .before .before .before .before .enum-told4 .given .1))) in
+    (s .0, (s .1, omega (arith, x .ensures .0)))
+
 pub say-answer-spec : {M : Type 1} → statement M
 say-answer-spec =
     tie.close
@@ -134,6 +153,9 @@ say-answer-spec =
     enum-told-3
     slice-aggregate-say-3
     say-requires-3
+    enum-told-4
+    slice-aggregate-say-4
+    say-requires-4
     same-length
     returns
     same-length-2
@@ -143,4 +165,6 @@ say-answer-spec =
     same-length-4
     returns-4
     same-length-5
-    returns-5)
+    returns-5
+    same-length-6
+    returns-6)

@@ -1,7 +1,7 @@
 -- `replay::put_answer` meets its contract, one answer at a time.
 -- Assumes nothing.
 use borrow.Author.Needs.{needs}
-use Rattle.replay.proofs.Writing.{answered, done-record, refused-record, revision-record}
+use Rattle.replay.proofs.Writing.{answered, done-record, refused-record, revision-record, stopped-record}
 use Rattle.replay.proofs.put_answer.Statement.{statement}
 use Rattle.replay.proofs.put_answer.Tie as tie
 
@@ -35,6 +35,12 @@ enum-known-answer-4 c = search needs
 put-log-requires : tie.Need-put-log-requires
 put-log-requires c κs = search needs
 
+enum-told-2 : tie.Need-enum-told-2
+enum-told-2 c = search needs
+
+put32-requires-3 : tie.Need-put32-requires-3
+put32-requires-3 c κs = search needs
+
 same-length : tie.Need-same-length
 same-length c = search needs
 
@@ -62,6 +68,12 @@ same-length-4 c = search needs
 returns-5 : tie.Need-returns-5
 returns-5 c = answered (c .before .before .before .before .before .answer4 .given .1) (c .before .before .put-log .ensures)
 
+same-length-5 : tie.Need-same-length-5
+same-length-5 c = search needs
+
+returns-6 : tie.Need-returns-6
+returns-6 c = answered (c .before .before .before .before .enum-told2 .given .1) (stopped-record (c .before .before .before .before .before .before .before .pre) (c .before .before .put323 .ensures))
+
 pub put-answer-spec : {M : Type 1} → statement M
 put-answer-spec =
     tie.close
@@ -76,6 +88,8 @@ put-answer-spec =
     put-standing-requires
     enum-known-answer-4
     put-log-requires
+    enum-told-2
+    put32-requires-3
     same-length
     returns
     returns-2
@@ -84,4 +98,6 @@ put-answer-spec =
     same-length-3
     returns-4
     same-length-4
-    returns-5)
+    returns-5
+    same-length-5
+    returns-6)

@@ -26,6 +26,9 @@ enum-told-2 c = search needs
 enum-told-3 : tie.Need-enum-told-3
 enum-told-3 c = search needs
 
+enum-told-4 : tie.Need-enum-told-4
+enum-told-4 c = search needs
+
 returns : tie.Need-returns
 returns c =
     ap (λ (n : ℕ). valued n 0) (c .number .ensures) ∙ answer-known (c .before .before .answer .given .1)
@@ -42,6 +45,9 @@ returns-4 c = answer-known (c .enum-told2 .given .1)
 returns-5 : tie.Need-returns-5
 returns-5 c = answer-known (c .enum-told3 .given .1)
 
+returns-6 : tie.Need-returns-6
+returns-6 c = answer-known (c .enum-told4 .given .1)
+
 pub answer-numbers-spec : {M : Type 1} → statement M
 answer-numbers-spec =
     tie.close
@@ -52,8 +58,10 @@ answer-numbers-spec =
     enum-known-answer-2
     enum-told-2
     enum-told-3
+    enum-told-4
     returns
     returns-2
     returns-3
     returns-4
-    returns-5)
+    returns-5
+    returns-6)

@@ -40,6 +40,12 @@ enum-known-answer-2 c = search needs
 told-requires : tie.Need-told-requires
 told-requires c κs = search needs
 
+enum-told-4 : tie.Need-enum-told-4
+enum-told-4 c = search needs
+
+untold-requires-5 : tie.Need-untold-requires-5
+untold-requires-5 c κs = search needs
+
 returns : tie.Need-returns
 returns c =
     c .untold .ensures ∙ ap noLog (c .before .number .ensures) ∙ log-known (c .before .before .before .answer .given .1)
@@ -56,6 +62,9 @@ returns-4 c = c .untold4 .ensures ∙ log-known (c .before .enum-told3 .given .1
 returns-5 : tie.Need-returns-5
 returns-5 c = c .told .ensures ∙ log-known (c .before .before .answer2 .given .1)
 
+returns-6 : tie.Need-returns-6
+returns-6 c = c .untold5 .ensures ∙ log-known (c .before .enum-told4 .given .1)
+
 pub log-numbers-spec : {M : Type 1} → statement M
 log-numbers-spec =
     tie.close
@@ -71,8 +80,11 @@ log-numbers-spec =
     untold-requires-4
     enum-known-answer-2
     told-requires
+    enum-told-4
+    untold-requires-5
     returns
     returns-2
     returns-3
     returns-4
-    returns-5)
+    returns-5
+    returns-6)

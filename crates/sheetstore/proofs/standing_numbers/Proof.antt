@@ -37,6 +37,12 @@ enum-told-3 c = search needs
 no-standing-requires-4 : tie.Need-no-standing-requires-4
 no-standing-requires-4 c κs = search needs
 
+enum-told-4 : tie.Need-enum-told-4
+enum-told-4 c = search needs
+
+no-standing-requires-5 : tie.Need-no-standing-requires-5
+no-standing-requires-5 c κs = search needs
+
 returns : tie.Need-returns
 returns c =
     c .no-standing .ensures ∙ ap noStanding (c .before .number .ensures) ∙ standing-known (c .before .before .before .answer .given .1)
@@ -53,6 +59,9 @@ returns-4 c = standing-known (c .before .answer2 .given .1)
 returns-5 : tie.Need-returns-5
 returns-5 c = c .no-standing4 .ensures ∙ standing-known (c .before .enum-told3 .given .1)
 
+returns-6 : tie.Need-returns-6
+returns-6 c = c .no-standing5 .ensures ∙ standing-known (c .before .enum-told4 .given .1)
+
 pub standing-numbers-spec : {M : Type 1} → statement M
 standing-numbers-spec =
     tie.close
@@ -67,8 +76,11 @@ standing-numbers-spec =
     enum-known-answer-2
     enum-told-3
     no-standing-requires-4
+    enum-told-4
+    no-standing-requires-5
     returns
     returns-2
     returns-3
     returns-4
-    returns-5)
+    returns-5
+    returns-6)

@@ -7,7 +7,8 @@ use borrow.Author.Needs.{needs}
 use lib.ListN.{length}
 use Rattle.block.specs.Check.{isZero}
 use Rattle.model.specs.Store.{tailOf}
-use Rattle.tails.proofs.Standing.{lent-at, tail-goes, tail-room, tail-stops}
+use Rattle.laws.proofs.Parts.{lent-block}
+use Rattle.tails.proofs.Standing.{tail-goes, tail-room, tail-stops}
 use Rattle.tails.proofs.count.Statement.{statement}
 use Rattle.tails.proofs.count.Tie as tie
 
@@ -46,7 +47,7 @@ is-zero-requires c κs = search needs
 
 returns : tie.Need-returns Inv-loop μ-loop
 returns c = let k = c .before .before .before .before .before .before in let s = k .args .store .now in let l = c .before .before .before .before .loop in
-    tail-stops s (k .args .used) (k .pre) (l .t) (l .inv .2) (omega arith) (ap isZero (sym (lent-at s (k .args .used + l .t))) ∙ sym (c .before .is-zero .ensures) ∙ c .if1 .taken)
+    tail-stops s (k .args .used) (k .pre) (l .t) (l .inv .2) (omega arith) (ap isZero (sym (lent-block s (k .args .used + l .t))) ∙ sym (c .before .is-zero .ensures) ∙ c .if1 .taken)
 
 add-t : tie.Need-add-t Inv-loop μ-loop
 add-t c = search needs
@@ -58,7 +59,7 @@ loop-again : tie.Need-loop-again Inv-loop μ-loop
 loop-again c = let k = c .before .before .before .before .before .before in let s = k .args .store .now in let l = c .before .before .before .before .loop in (
   l .inv .0,
   omega arith,
-  tail-goes s (k .args .used) (k .pre) (l .t) (l .inv .2) (omega arith) (ap isZero (sym (lent-at s (k .args .used + l .t))) ∙ sym (c .before .is-zero .ensures) ∙ c .if1 .left),
+  tail-goes s (k .args .used) (k .pre) (l .t) (l .inv .2) (omega arith) (ap isZero (sym (lent-block s (k .args .used + l .t))) ∙ sym (c .before .is-zero .ensures) ∙ c .if1 .left),
 )
 
 returns-2 : tie.Need-returns-2 Inv-loop μ-loop

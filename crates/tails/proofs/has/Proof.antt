@@ -3,7 +3,8 @@
 use mathlib.Core.Path.{_∙_, ap}
 use native.Mathlib.Omega.{arith}
 use Rattle.block.specs.Check.{isZero}
-use Rattle.tails.proofs.Standing.{lent-at, tail-none, tail-some}
+use Rattle.laws.proofs.Parts.{lent-block}
+use Rattle.tails.proofs.Standing.{tail-none, tail-some}
 use borrow.Author.Needs.{needs}
 use Rattle.tails.proofs.has.Statement.{statement}
 use Rattle.tails.proofs.has.Tie as tie
@@ -31,7 +32,7 @@ is-zero-requires c κs = search needs
 
 returns-2 : tie.Need-returns-2
 returns-2 c = let k = c .before .before .before .before in let s = k .args .store .now in
-    tail-some s (k .args .used) (k .pre) (omega arith) (c .is-zero .ensures ∙ ap isZero (lent-at s (k .args .used)))
+    tail-some s (k .args .used) (k .pre) (omega arith) (c .is-zero .ensures ∙ ap isZero (lent-block s (k .args .used)))
 
 pub has-spec : {M : Type 1} → statement M
 has-spec =

@@ -1,0 +1,171 @@
+-- W6, the cut rule, for the code: "At whichever block the power fails", in a commit or in clearing, the store found is accepted, with the history before or the one with the whole commit, and
+-- clearing leads back to a store without a tail. The writes are those of `commit_cut` and `clear_cut`: what whoever calls these functions learns is taken from their own contracts
+-- (`Learnt`, in `Made`), of which no text is repeated here, and that the code meets them (`met`) stands in the same record.
+-- Assumes nothing.
+use Prim.Native.Nat.{_<_, _^_, _≤_, suc, zero, ℕ}
+use mathlib.Core.Path.{_∙_, _≡_, ap, subst, sym}
+use lib.ListN.{take}
+use Rattle.block.specs.Buffer.{blockAt, withBlock}
+use Rattle.model.specs.Calls.{Created, Out, bothConditions, call, commitWrites, out, storeConditions, writtenFrom}
+use Rattle.model.specs.Cut.{Clearings, FoundCommit, FoundIn, Restored, Torn, Written, clearPlace, commitPlace, writeCount}
+use Rattle.model.specs.History.{Bytes}
+use Rattle.model.specs.Machine.{Call, Clears, ClearsCut, Commits, CommitsCut, done, refused, stopped}
+use Rattle.model.specs.Refusals.{Clear}
+use Rattle.model.specs.Store.{bareOf, blockCount, tailOf, usedOf}
+use Rattle.model.specs.Types.{answerOf}
+use Rattle.model.specs.declared.Answer.{Answer}
+use Rattle.laws.proofs.CutCommits.{cut-anywhere}
+use Rattle.engine.proofs.Demand3.{Made, made-is}
+use Rattle.engine.proofs.clear.Met as clear-met
+use Rattle.engine.proofs.clear.Statement as clear-statement
+use Rattle.engine.proofs.clear_cut.Met as clear-cut-met
+use Rattle.engine.proofs.clear_cut.Statement as clear-cut-statement
+use Rattle.engine.proofs.commit.Met as commit-met
+use Rattle.engine.proofs.commit.Statement as commit-statement
+use Rattle.engine.proofs.commit_cut.Met as commit-cut-met
+use Rattle.engine.proofs.commit_cut.Statement as commit-cut-statement
+
+-- THE STATEMENT
+
+-- what the code leaves of this store and copy, stopped after n writes and after one more: c is one of the two cut calls
+pub record Step (store copy : Bytes) (c : ℕ → Call) (n : ℕ) (before after : Bytes) : Type 0 where
+  pub answer : Answer
+  pub beside : Bytes
+  pub made : Made store copy (c n) answer before beside
+  pub next-answer : Answer
+  pub next-beside : Bytes
+  pub next-made : Made store copy (c (suc n)) next-answer after next-beside
+
+-- the power failed in one of the writes: the store f was found
+pub record Cut (store copy : Bytes) (c : ℕ → Call) (writes : ℕ) (place : ℕ → ℕ) (f : Bytes) : Type 0 where
+  pub n : ℕ
+  pub inside : n < writes
+  pub before : Bytes
+  pub after : Bytes
+  pub step : Step store copy c n before after
+  pub torn : Torn before after (place n) f
+
+-- "Commit writes its content blocks in rising order, then its commit block", clearing "from its highest block down": each write is of one whole block, and of no used one
+pub record WritesOne (store : Bytes) (place : ℕ) (before after : Bytes) : Type 0 where
+  pub only : after ≡ withBlock before place (blockAt after place)
+  pub past : usedOf store ≤ place
+  pub inside : place < blockCount store
+
+-- in the code's commit, and in its clearing, which doesn't know of a copy
+abbrev pub CodeFoundCommitting : Bytes → Bytes → ℕ → ℕ → Bytes → Type 0
+CodeFoundCommitting store copy stamp mask = Cut store copy (CommitsCut stamp mask) (writeCount store copy stamp mask) (commitPlace store copy stamp mask)
+
+abbrev pub CodeFoundClearing : Bytes → Bytes → Type 0
+CodeFoundClearing store f = (copy : Bytes) × Cut store copy ClearsCut (tailOf store) (clearPlace store) f
+
+-- "any number of cut clearings", one after the other: from f to g
+abbrev pub CodeClearings : ℕ → Bytes → Bytes → Type 0
+CodeClearings zero f g = g ≡ f
+CodeClearings (suc k) f g = (mid : Bytes) × CodeFoundClearing f mid × CodeClearings k mid g
+
+-- g was found after cut clearings of f: `clear` leaves the store of f without its tail
+pub record CodeRestored (f g : Bytes) : Type 0 where
+  pub restored : Restored f g
+  pub clears : {copy store′ copy′ : Bytes} {r : Answer} → Made g copy Clears r store′ copy′ → (answerOf r ≡ done) × (store′ ≡ bareOf f)
+
+pub record CodeCutClearing (store : Bytes) : Type 0 where
+  pub starts : {copy store′ copy′ : Bytes} {r : Answer} → Made store copy (ClearsCut 0) r store′ copy′ → store′ ≡ store
+  pub writes : (n : ℕ) → n < tailOf store → {copy before after : Bytes} → Step store copy ClearsCut n before after → WritesOne store (clearPlace store n) before after
+  pub stops : (n : ℕ) → n < tailOf store → {copy store′ copy′ : Bytes} {r : Answer} → Made store copy (ClearsCut n) r store′ copy′ → answerOf r ≡ stopped
+  pub usual : (n : ℕ) → tailOf store ≤ n → {copy s s′ t t′ : Bytes} {r r′ : Answer} → Made store copy (ClearsCut n) r s t → Made store copy Clears r′ s′ t′
+      → out (answerOf r) s t ≡ out (answerOf r′) s′ t′
+  pub found : (k : ℕ) (g : Bytes) → CodeClearings k store g → CodeRestored store g
+
+pub record CodeCutCommit (store copy : Bytes) (stamp mask : ℕ) : Type 0 where
+  pub starts : {store′ copy′ : Bytes} {r : Answer} → Made store copy (CommitsCut stamp mask 0) r store′ copy′ → store′ ≡ store
+  pub writes : (n : ℕ) → n < writeCount store copy stamp mask → {before after : Bytes} → Step store copy (CommitsCut stamp mask) n before after
+      → WritesOne store (commitPlace store copy stamp mask n) before after
+  -- "its content blocks in rising order, then its commit block": the first n of them
+  pub blocks : Written store copy stamp mask
+  pub leaves : (n : ℕ) → n ≤ writeCount store copy stamp mask → {store′ copy′ : Bytes} {r : Answer} → Made store copy (CommitsCut stamp mask n) r store′ copy′
+      → store′ ≡ writtenFrom store (take n (commitWrites store copy stamp mask))
+  -- "it stops after n block writes, the working copy untouched, and answers that it stopped; with n enough for all its writes it is the usual call"
+  pub stops : (n : ℕ) → n < writeCount store copy stamp mask → {store′ copy′ : Bytes} {r : Answer} → Made store copy (CommitsCut stamp mask n) r store′ copy′
+      → (answerOf r ≡ stopped) × (copy′ ≡ copy)
+  pub usual : (n : ℕ) → writeCount store copy stamp mask ≤ n → {s s′ t t′ : Bytes} {r r′ : Answer} → Made store copy (CommitsCut stamp mask n) r s t
+      → Made store copy (Commits stamp mask) r′ s′ t′ → out (answerOf r) s t ≡ out (answerOf r′) s′ t′
+  pub found : (f : Bytes) → CodeFoundCommitting store copy stamp mask f → FoundCommit store copy stamp mask f
+  -- "Clearing, even after any number of cut clearings, then gives a store without a tail and the same history."
+  pub restored : (f : Bytes) → CodeFoundCommitting store copy stamp mask f → (k : ℕ) (g : Bytes) → CodeClearings k f g → CodeRestored f g
+
+pub record CodeCut : Type 2 where
+  pub commit-meets : (M : Type 1) → commit-statement.statement M
+  pub clear-meets : (M : Type 1) → clear-statement.statement M
+  pub commit-cut-meets : (M : Type 1) → commit-cut-statement.statement M
+  pub clear-cut-meets : (M : Type 1) → clear-cut-statement.statement M
+  -- a commit that no line refuses
+  pub commits : (store copy : Bytes) (stamp mask : ℕ) → stamp < 2 ^ 32 → Clear (bothConditions store copy (Commits stamp mask)) → CodeCutCommit store copy stamp mask
+  -- an accepted store
+  pub clears : (store : Bytes) → Clear (storeConditions store) → CodeCutClearing store
+  -- a refusal comes whatever n is, and nothing is changed
+  pub refuses : {store copy s s′ t t′ : Bytes} {stamp mask n q : ℕ} {r r′ : Answer} → Made store copy (Commits stamp mask) r s t → answerOf r ≡ refused q
+      → Made store copy (CommitsCut stamp mask n) r′ s′ t′ → out (answerOf r′) s′ t′ ≡ out (refused q) store copy
+  pub keeps : {store copy s s′ t t′ : Bytes} {n q : ℕ} {r r′ : Answer} → Made store copy Clears r s t → answerOf r ≡ refused q
+      → Made store copy (ClearsCut n) r′ s′ t′ → out (answerOf r′) s′ t′ ≡ out (refused q) store copy
+
+-- THE PROOF
+
+-- the store that the code leaves is the call's
+left-is : {store copy store′ copy′ : Bytes} {c : Call} {r : Answer} → Made store copy c r store′ copy′ → store′ ≡ call store copy c .store
+left-is m = ap (λ (o : Out). o .store) (made-is m)
+
+pub found-in : {store copy : Bytes} {c : ℕ → Call} {writes : ℕ} {place : ℕ → ℕ} {f : Bytes} → Cut store copy c writes place f → FoundIn (λ n. call store copy (c n) .store) writes place f
+found-in {store} {copy} {c} {writes} {place} {f} C = (
+  C .n,
+  C .inside,
+  subst (λ (x : Bytes). Torn x (call store copy (c (suc (C .n))) .store) (place (C .n)) f) (left-is (C .step .made))
+      (subst (λ (x : Bytes). Torn (C .before) x (place (C .n)) f) (left-is (C .step .next-made)) (C .torn)),
+)
+
+clearings : (k : ℕ) (f g : Bytes) → CodeClearings k f g → Clearings k f g
+clearings zero f g e = e
+clearings (suc k) f g e = (e .0, found-in (e .1 .1), clearings k (e .0) g (e .2))
+
+-- one write, as the code leaves it
+one-is : {store copy before after : Bytes} {c : ℕ → Call} {n : ℕ} (p : ℕ) → Step store copy c n before after
+    → call store copy (c (suc n)) .store ≡ withBlock (call store copy (c n) .store) p (blockAt (call store copy (c (suc n)) .store) p) → after ≡ withBlock before p (blockAt after p)
+one-is p S e =
+    left-is (S .next-made) ∙ e ∙ sym (λ i. withBlock (left-is (S .made) i) p (blockAt (left-is (S .next-made) i) p))
+
+restored-is : {f g : Bytes} → Restored f g → CodeRestored f g
+restored-is R = record {
+  restored = R;
+  clears = λ m. (ap (λ (o : Out). o .says) (made-is m) ∙ ap (λ (o : Created). o .says) (R .clears), left-is m ∙ ap (λ (o : Created). o .buffer) (R .clears));
+}
+
+pub code-cut : CodeCut
+code-cut = record {
+  commit-meets = λ M. commit-met.met;
+  clear-meets = λ M. clear-met.met;
+  commit-cut-meets = λ M. commit-cut-met.met;
+  clear-cut-meets = λ M. clear-cut-met.met;
+  commits = λ store copy stamp mask ty free.
+      let R = cut-anywhere store copy .commits stamp mask ty free in
+      record {
+        starts = λ m. left-is m ∙ R .order .starts;
+        writes = λ n g S. record { only = one-is (commitPlace store copy stamp mask n) S (R .order .each n g); past = R .order .past n g; inside = R .order .inside n g };
+        blocks = R .writes;
+        leaves = λ n g m. left-is m ∙ R .writes .after n g;
+        stops = λ n g m. let e = made-is m ∙ R .stops n g in (ap (λ (o : Out). o .says) e, ap (λ (o : Out). o .copy) e);
+        usual = λ n g m m′. made-is m ∙ R .usual n g ∙ sym (made-is m′);
+        found = λ f C. R .found f (found-in C);
+        restored = λ f C k g e. restored-is (R .found f (found-in C) .restored k g (clearings k f g e));
+      };
+  clears = λ store free.
+      let R = cut-anywhere store store .clears free in
+      record {
+        starts = λ m. left-is m ∙ R .order .starts;
+        writes = λ n g S. record { only = one-is (clearPlace store n) S (R .order .each n g); past = R .order .past n g; inside = R .order .inside n g };
+        stops = λ n g m. ap (λ (o : Out). o .says) (made-is m) ∙ R .stops n g;
+        usual = λ n g {copy} m m′. made-is m ∙ ap (λ (o : Created). out (o .says) (o .buffer) copy) (R .usual n g) ∙ sym (made-is m′);
+        found = λ k g e. restored-is (R .found k g (clearings k store g e));
+      };
+  refuses = λ {store} {copy} {s} {s′} {t} {t′} {stamp} {mask} {n} {q} m e m′. made-is m′ ∙ cut-anywhere store copy .refuses stamp mask n q (sym (ap (λ (o : Out). o .says) (made-is m)) ∙ e);
+  keeps = λ {store} {copy} {s} {s′} {t} {t′} {n} {q} m e m′.
+      made-is m′ ∙ ap (λ (o : Created). out (o .says) (o .buffer) copy) (cut-anywhere store copy .keeps n q (sym (ap (λ (o : Out). o .says) (made-is m)) ∙ e));
+}
