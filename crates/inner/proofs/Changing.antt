@@ -48,9 +48,6 @@ module _ (store copy : Bytes) where
   store-refusal k c e =
       first-stays (storeConditions store) (tailConditions (sideIn store copy) c ++ (copyConditions store copy ++ conditions (sideIn store copy) c)) (numberOf k) (open-refused store k e)
 
-  pub refused-store : (k : Refusal) (c : Call) → openOf store ≡ NotOpen k → out (refused (numberOf k)) store copy ≡ changeCall store copy c
-  refused-store k c e = refused-by k c (store-refusal k c e)
-
   -- then 14
   tail-refusal : (stamp mask n : ℕ) → firstOf (storeConditions store) ≡ none → not (eqb (tailOf store) 0) ≡ true → refusalOf store copy (CommitsCut stamp mask n) ≡ some 14
   unfolding refusalOf
