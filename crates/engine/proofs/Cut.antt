@@ -3,27 +3,31 @@
 -- (`Learnt`, in `Made`), of which no text is repeated here, and that the code meets them (`met`) stands in the same record.
 -- Assumes nothing.
 use Prim.Native.Nat.{_<_, _^_, _≤_, suc, zero, ℕ}
+use mathlib.Core.List.{[]}
+use mathlib.Core.Option.{none}
 use mathlib.Core.Path.{_∙_, _≡_, ap, subst, sym}
+use denote.Ref.{RefT, now}
+use contract.Lifetimes.{Lfts}
 use lib.ListN.{take}
 use Rattle.block.specs.Buffer.{blockAt, withBlock}
 use Rattle.model.specs.Calls.{Created, Out, bothConditions, call, commitWrites, out, storeConditions, writtenFrom}
 use Rattle.model.specs.Cut.{Clearings, FoundCommit, FoundIn, Restored, Torn, Written, clearPlace, commitPlace, writeCount}
-use Rattle.model.specs.History.{Bytes}
+use Rattle.model.specs.Demand2.{LaidStore}
+use Rattle.model.specs.History.{Bytes, last}
 use Rattle.model.specs.Machine.{Call, Clears, ClearsCut, Commits, CommitsCut, done, refused, stopped}
-use Rattle.model.specs.Refusals.{Clear}
-use Rattle.model.specs.Store.{bareOf, blockCount, tailOf, usedOf}
+use Rattle.model.specs.Refusals.{Clear, firstOf}
+use Rattle.model.specs.Store.{bareOf, blockCount, storeHistory, tailOf, usedOf}
 use Rattle.model.specs.Types.{answerOf}
 use Rattle.model.specs.declared.Answer.{Answer}
 use Rattle.laws.proofs.CutCommits.{cut-anywhere}
-use Rattle.engine.proofs.Demand3.{Made, made-is}
-use Rattle.engine.proofs.clear.Met as clear-met
-use Rattle.engine.proofs.clear.Statement as clear-statement
-use Rattle.engine.proofs.clear_cut.Met as clear-cut-met
-use Rattle.engine.proofs.clear_cut.Statement as clear-cut-statement
-use Rattle.engine.proofs.commit.Met as commit-met
-use Rattle.engine.proofs.commit.Statement as commit-statement
-use Rattle.engine.proofs.commit_cut.Met as commit-cut-met
-use Rattle.engine.proofs.commit_cut.Statement as commit-cut-statement
+use Rattle.laws.proofs.Demand2.{demand-two}
+use Rattle.laws.proofs.Ordered.{ordered}
+use Rattle.engine.proofs.Demand2.{CodeDemand2, code-demand-two}
+use Rattle.engine.proofs.Demand3.{CodeDemand3, Made, Read, code-demand-three, made-is, read-is}
+use Rattle.store.proofs.open.Reads as open-reads
+use Rattle.store.specs.declared.Header.{Header}
+use Rattle.store.specs.declared.Opened.{Opened}
+use Rattle.store.specs.declared.Opened.the-variants.{Open}
 
 -- THE STATEMENT
 
@@ -63,9 +67,15 @@ abbrev pub CodeClearings : ℕ → Bytes → Bytes → Type 0
 CodeClearings zero f g = g ≡ f
 CodeClearings (suc k) f g = (mid : Bytes) × CodeFoundClearing f mid × CodeClearings k mid g
 
--- g was found after cut clearings of f: `clear` leaves the store of f without its tail
+-- the store f as the code takes it: `open` accepts it, and `read_place` finds every sheet at every revision of its history
+pub record CodeAccepts (f : Bytes) : Type 0 where
+  pub opens : (κs : Lfts 1) (x x′ : RefT Bytes) (r : Opened) → now x ≡ f → open-reads.Learnt κs (x, tt) r (x′, tt) → (t : Header) × (r ≡ Open t)
+  pub reads : (R i : ℕ) → R ≤ last (storeHistory f) → i ≤ 31 → Read f (storeHistory f) R i
+
+-- g was found after cut clearings of f: the code accepts it, and `clear` leaves the store of f without its tail
 pub record CodeRestored (f g : Bytes) : Type 0 where
   pub restored : Restored f g
+  pub accepts : CodeAccepts g
   pub clears : {copy store′ copy′ : Bytes} {r : Answer} → Made g copy Clears r store′ copy′ → (answerOf r ≡ done) × (store′ ≡ bareOf f)
 
 pub record CodeCutClearing (store : Bytes) : Type 0 where
@@ -90,14 +100,14 @@ pub record CodeCutCommit (store copy : Bytes) (stamp mask : ℕ) : Type 0 where
   pub usual : (n : ℕ) → writeCount store copy stamp mask ≤ n → {s s′ t t′ : Bytes} {r r′ : Answer} → Made store copy (CommitsCut stamp mask n) r s t
       → Made store copy (Commits stamp mask) r′ s′ t′ → out (answerOf r) s t ≡ out (answerOf r′) s′ t′
   pub found : (f : Bytes) → CodeFoundCommitting store copy stamp mask f → FoundCommit store copy stamp mask f
+  pub accepts : (f : Bytes) → CodeFoundCommitting store copy stamp mask f → CodeAccepts f
   -- "Clearing, even after any number of cut clearings, then gives a store without a tail and the same history."
   pub restored : (f : Bytes) → CodeFoundCommitting store copy stamp mask f → (k : ℕ) (g : Bytes) → CodeClearings k f g → CodeRestored f g
 
 pub record CodeCut : Type 2 where
-  pub commit-meets : (M : Type 1) → commit-statement.statement M
-  pub clear-meets : (M : Type 1) → clear-statement.statement M
-  pub commit-cut-meets : (M : Type 1) → commit-cut-statement.statement M
-  pub clear-cut-meets : (M : Type 1) → clear-cut-statement.statement M
+  -- the functions meet their contracts, of which `Made` and `Read` speak; so does `open`
+  pub calls-meet : CodeDemand3
+  pub open-meets : CodeDemand2
   -- a commit that no line refuses
   pub commits : (store copy : Bytes) (stamp mask : ℕ) → stamp < 2 ^ 32 → Clear (bothConditions store copy (Commits stamp mask)) → CodeCutCommit store copy stamp mask
   -- an accepted store
@@ -132,18 +142,28 @@ one-is : {store copy before after : Bytes} {c : ℕ → Call} {n : ℕ} (p : ℕ
 one-is p S e =
     left-is (S .next-made) ∙ e ∙ sym (λ i. withBlock (left-is (S .made) i) p (blockAt (left-is (S .next-made) i) p))
 
+-- what the definitions accept the code accepts
+accepts-is : (f : Bytes) → firstOf (storeConditions f) ≡ none → CodeAccepts f
+accepts-is f t =
+    let D = demand-two f [] in
+    let L = D .store-accepted .0 t in
+    let e : L .0 ≡ storeHistory f = sym (D .store-read (L .0) (L .1) .0) in
+    record {
+      opens = λ κs x x′ r q l. code-demand-two .opens κs x x′ r l .accepted .1 (L .0, subst (λ (s : Bytes). LaidStore s (L .0)) (sym q) (L .1));
+      reads = λ R i le small. read-is f (storeHistory f) R i (ordered .another f (storeHistory f) (subst (LaidStore f) e (L .1)) .found R i le small);
+    }
+
 restored-is : {f g : Bytes} → Restored f g → CodeRestored f g
-restored-is R = record {
+restored-is {f} {g} R = record {
   restored = R;
+  accepts = accepts-is g (R .accepted);
   clears = λ m. (ap (λ (o : Out). o .says) (made-is m) ∙ ap (λ (o : Created). o .says) (R .clears), left-is m ∙ ap (λ (o : Created). o .buffer) (R .clears));
 }
 
 pub code-cut : CodeCut
 code-cut = record {
-  commit-meets = λ M. commit-met.met;
-  clear-meets = λ M. clear-met.met;
-  commit-cut-meets = λ M. commit-cut-met.met;
-  clear-cut-meets = λ M. clear-cut-met.met;
+  calls-meet = code-demand-three;
+  open-meets = code-demand-two;
   commits = λ store copy stamp mask ty free.
       let R = cut-anywhere store copy .commits stamp mask ty free in
       record {
@@ -154,6 +174,7 @@ code-cut = record {
         stops = λ n g m. let e = made-is m ∙ R .stops n g in (ap (λ (o : Out). o .says) e, ap (λ (o : Out). o .copy) e);
         usual = λ n g m m′. made-is m ∙ R .usual n g ∙ sym (made-is m′);
         found = λ f C. R .found f (found-in C);
+        accepts = λ f C. accepts-is f (R .found f (found-in C) .accepted);
         restored = λ f C k g e. restored-is (R .found f (found-in C) .restored k g (clearings k f g e));
       };
   clears = λ store free.

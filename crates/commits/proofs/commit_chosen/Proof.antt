@@ -1,5 +1,6 @@
 -- `commits::commit_chosen` meets its contract, way by way.
 -- Assumes nothing.
+use native.Mathlib.Omega.{arith}
 use borrow.Author.Needs.{needs}
 use Rattle.commits.proofs.Join.{may-plan, may-write, says-done, says-no-room, says-nothing, says-stopped}
 use Rattle.commits.proofs.commit_chosen.Statement.{statement}
@@ -43,7 +44,7 @@ returns-3 c =
     let v = c .before .before .before .write-some in
     says-stopped (a .store .now) (a .copy .now) (a .used) (a .revision) (a .seat) (a .mask) (a .changed .now) (a .places .now) (s .pre)
     (w .result .lines) (w .result .count) (w .result .next) (w .ensures) (a .stamp) (a .n) (v .last .0) (v .result)
-    (c .before .before .before .before .before .before .before .if1 .left) (c .before .before .before .before .before .before .if2 .left) (v .ensures) (c .if3 .taken)
+    (c .before .before .before .before .before .before .before .if1 .left) (c .before .before .before .before .before .before .if2 .left) (v .ensures) (omega (arith, c .if3 .taken))
 
 returns-4 : tie.Need-returns-4
 returns-4 c =
@@ -53,7 +54,7 @@ returns-4 c =
     let v = c .before .before .before .write-some in
     says-done (a .store .now) (a .copy .now) (a .used) (a .revision) (a .seat) (a .mask) (a .changed .now) (a .places .now) (s .pre)
     (w .result .lines) (w .result .count) (w .result .next) (w .ensures) (a .stamp) (a .n) (v .last .0) (v .result)
-    (c .before .before .before .before .before .before .before .if1 .left) (c .before .before .before .before .before .before .if2 .left) (v .ensures) (c .if3 .left)
+    (c .before .before .before .before .before .before .before .if1 .left) (c .before .before .before .before .before .before .if2 .left) (v .ensures) (omega (arith, c .if3 .left))
 
 pub commit-chosen-spec : {M : Type 1} → statement M
 commit-chosen-spec = tie.close (tie.spec make-plan-requires returns returns-2 write-some-requires (λ c. search needs) returns-3 (λ c. search needs) returns-4)
