@@ -1,9 +1,9 @@
 /* The sheet store for C and whatever calls C. Build the library with `rt staticlib sheetstore`.
  *
- * Every call works on buffers that the caller lends: a store of 2 to 4,096 blocks of 512 bytes, and a working copy of 16,896
- * bytes. A call checks all that it is handed, finishes on every input, and either does its work or answers a refusal and
- * leaves every buffer unchanged; sheets_commit_cut and sheets_clear_cut may stop within their work and answer that. A call needs
- * about 272 KiB of stack.
+ * Every call works on what the caller lends: a store of 2 to 4,096 blocks of 512 bytes, a working copy of 16,896 bytes, a turn
+ * record. A call checks all that it is handed, finishes on every input, and either does its work or answers a refusal and leaves
+ * every buffer and record unchanged; sheets_commit_cut and sheets_clear_cut may stop within their work and answer that. A call
+ * needs about 272 KiB of stack.
  */
 #ifndef SHEETSTORE_H
 #define SHEETSTORE_H
@@ -20,7 +20,7 @@ extern "C" {
 #define SHEETS_RECORD_LEN 512
 
 /* Why a call was refused, numbered as in the order's papers; 0 is none. A call answers the first that holds, 14 checked right
- * after 3. */
+ * after 3 and 15 right after 7. */
 enum {
     SHEETS_REFUSED_STORE_LENGTH = 1,
     SHEETS_REFUSED_STORE_CHECK = 2,
@@ -35,10 +35,11 @@ enum {
     SHEETS_REFUSED_OUT_OF_DATE = 11,
     SHEETS_REFUSED_CONFLICT = 12,
     SHEETS_REFUSED_NO_ROOM = 13,
-    SHEETS_REFUSED_TAIL = 14 /* commit on a store that has a tail */
+    SHEETS_REFUSED_TAIL = 14,       /* a commit on a store that has a tail */
+    SHEETS_REFUSED_NOT_HOLDING = 15 /* a commit in turn by a seat that does not hold the turn */
 };
 
-/* refusal 0: done; value: a commit's revision, else 0 */
+/* refusal 0: done; value: a commit's revision, the holder that a call on a turn record leaves, else 0 */
 typedef struct {
     uint32_t refusal;
     uint32_t value;
@@ -71,6 +72,12 @@ typedef struct {
     uint32_t refusal, seat, stamp, changes, action, source_sheet, source_revision;
 } sheets_log_entry;
 
+/* Whose turn it is to commit: the seat that holds it, then those waiting, longest first, 0 where none; all 0: a free record. One
+ * with a number above 4, a seat twice or a seat after a 0 is not in form, and refused with 7. */
+typedef struct {
+    uint32_t holder, first, second, third;
+} sheets_turn;
+
 sheets_answer sheets_create_store(uint8_t *store, size_t store_len);
 sheets_answer sheets_create_copy(uint8_t *copy, size_t copy_len, uint32_t seat);
 
@@ -86,8 +93,9 @@ sheets_answer sheets_move(const uint8_t *store, size_t store_len, uint8_t *copy,
  * of one size that began fresh and have no tail are equal byte by byte exactly if their histories are the same. */
 sheets_answer sheets_commit(uint8_t *store, size_t store_len, uint8_t *copy, size_t copy_len, uint32_t stamp, uint32_t mask);
 /* Where contact is lost within a commit, the store ends in a tail: up to 32 content blocks of the next revision and at most one
- * block with a wrong check. Every call but commit works then, as if the tail were zero blocks; commit is refused with 14. Clear
- * writes zero blocks there, from the highest block down; without a tail it changes nothing. Only 1, 2 and 3 refuse it.
+ * block with a wrong check. Every call but a commit works then, as if the tail were zero blocks; a commit, cut or in turn too, is
+ * refused with 14. Clear writes zero blocks there, from the highest block down; without a tail it changes nothing. Only 1, 2 and 3
+ * refuse it.
  *
  * Wherever the power fails within a commit or a clear, and the blocks written before are new, the block being written is old, new
  * or has a wrong check, and those due later are old, the store found is accepted. Its history is the one before or the one with
@@ -101,6 +109,23 @@ sheets_answer sheets_clear(uint8_t *store, size_t store_len);
 sheets_cut_answer sheets_commit_cut(uint8_t *store, size_t store_len, uint8_t *copy, size_t copy_len, uint32_t stamp, uint32_t mask,
                                     uint32_t n);
 sheets_cut_answer sheets_clear_cut(uint8_t *store, size_t store_len, uint32_t n);
+
+/* Taking turns to commit. A seat asks: it gets the turn if nobody holds it, otherwise it joins the end of those waiting. The
+ * holder gives back, or the planner takes back from the holder, and the longest waiting seat, if any, gets the turn. Giving back
+ * by another seat, taking back when nobody holds, and asking while waiting or holding change nothing. The value is the holder
+ * that the call leaves, 0 for none. Only 7 refuses: a seat that is not 1 to 4, or a record not in form. The pointer to the record
+ * must be aligned to 4 and not null.
+ *
+ * From a free record on, a seat that asked holds the turn no later than the third giving or taking back that ended a turn after
+ * it asked. That says nothing of time: a holder that never gives back keeps the turn until the planner takes it back. */
+sheets_answer sheets_turn_ask(sheets_turn *turn, uint32_t seat);
+sheets_answer sheets_turn_give(sheets_turn *turn, uint32_t seat);
+sheets_answer sheets_turn_take(sheets_turn *turn);
+/* A commit in turn, that is through the record: 7 for a record not in form too, then 15 if the working copy's seat does not hold
+ * the turn, before 10. Done, it is sheets_commit, which asks for no turn. The record stays: giving back is a call of its own. */
+sheets_answer sheets_commit_in_turn(uint8_t *store, size_t store_len, uint8_t *copy, size_t copy_len, sheets_turn turn,
+                                    uint32_t stamp, uint32_t mask);
+
 /* An entry whose own bytes are the ones that its sheet has at the revision agrees with it: not a conflict (12), and unmodified
  * from then on. */
 sheets_answer sheets_update(const uint8_t *store, size_t store_len, uint8_t *copy, size_t copy_len, uint32_t mask, uint32_t revision);

@@ -3,23 +3,23 @@
 
 calls.py [--seed N] [--lists N] [--only K]
 
-For each list a fresh store of 2 to 4,096 blocks and four fresh copies; answers, every byte of every buffer, and reads are compared. Cut commits and clearings are
-among the calls, and in half of the lists the store is found with a tail now and then, as a power cut leaves it. Then damage, with and without a tail: bytes of the
-buffers changed, resealed or not, blocks exchanged, lengths wrong; the first refusal that holds by tests/model/accept.py must come and nothing may change, and where
-the buffers are accepted all the same, the call must do as the model does. How often the calls met what W2, W3, W5 and W6 of document 02 are about is printed, and
-that some of it never came is a failure.
+For each list a fresh store of 2 to 4,096 blocks, four fresh copies and a free turn record; answers, every byte of every buffer, the record, and reads are compared.
+Cut commits and clearings, calls on the record and commits through it are among the calls, and in half of the lists the store is found with a tail now and then, as a
+power cut leaves it. Then damage, with and without a tail: bytes of the buffers changed, resealed or not, blocks exchanged, lengths wrong; the first refusal that
+holds by tests/model/accept.py must come and nothing may change, and where the buffers are accepted all the same, the call must do as the model does. How often the
+calls met what W2, W3, W5, W6 and W7 of document 02 are about is printed, and that some of it never came is a failure.
 At the first list that fails its seed and number are printed: `--seed N --only K` runs that list alone.
 """
 import pathlib, random, sys
 
 sys.path.insert(0, str(pathlib.Path(__file__).resolve().parent))
 sys.path.insert(0, str(pathlib.Path(__file__).resolve().parent / 'model'))
-import accept, layout, lists, sheets
+import accept, layout, lists, sheets, turns
 from engine import Engine
 
-CHANGING = ('add', 'edit', 'delete', 'copy', 'move', 'commit', 'commit_cut', 'update', 'revert')
+CHANGING = ('add', 'edit', 'delete', 'copy', 'move', 'commit', 'commit_cut', 'turn_commit', 'update', 'revert')
 STORE_ONLY = ('read', 'log', 'clear', 'clear_cut')
-COMMITS = ('commit', 'commit_cut')
+COMMITS = ('commit', 'commit_cut', 'turn_commit')
 ALL = 0xffffffff
 calls = failed = 0
 
@@ -35,7 +35,7 @@ def played(model, store, some):
     """The model's answers to these calls, and the store after them. The store has the model's history, in any order."""
     answers = []
     for c in some:
-        commit = model.asked(*c[1:4])[1] if c[0] in COMMITS else None
+        commit = model.asked(*c[1:4], c[0] == 'turn_commit')[1] if c[0] in COMMITS else None
         answers.append(lists.made(model, c))
         if c[0] in ('clear', 'clear_cut'):
             store = layout.cleared(store, *c[2:])
@@ -100,10 +100,11 @@ def random_tail(rng, model):
 
 
 class Desk:
-    """A store and four copies beside the model: a store that has the model's history, in any order, and its tail, and the model's copies."""
+    """A store, four copies and a turn record beside the model: a store that has the model's history, in any order, and its tail, and the model's copies and
+    record."""
 
     def __init__(self, engine, model, store):
-        self.engine, self.model, self.store, self.laid_out = engine, model, bytearray(store), bytes(store)
+        self.engine, self.model, self.store, self.laid_out, self.turn = engine, model, bytearray(store), bytes(store), list(model.turn)
         self.copies = {k: bytearray(layout.copy_bytes(k, entries)) for k, entries in model.seats.items()}
 
     @classmethod
@@ -149,9 +150,11 @@ class Desk:
         what = f'{name} by {seat} {args}'
         before = {k: bytes(c) for k, c in self.copies.items()}
         [wanted], self.laid_out = played(self.model, self.laid_out, [(name, seat, *args)])
-        got = self.engine.call(name, self.store, self.copies[seat], *args)
+        got = self.engine.call(name, self.store, self.copies[seat], *args, turn=self.turn)
         if got != wanted:
             fail(f'{what}: {got}, not {wanted}')
+        if tuple(self.turn) != self.model.turn:
+            fail(f'{what} leaves {self.turn}, not {self.model.turn}')
         if self.store != self.laid_out:
             fail(f'{what} leaves another store')
         elif wanted[0] == 'revision' and layout.history_of(self.laid_out) != (self.model.history, self.model.used, 0):
@@ -190,6 +193,8 @@ def random_list(engine, rng, number):
         if rng.random() < tails:
             desk.leave(random_tail(rng, desk.model))
         desk.call(*lists.random_call(rng, desk.model))
+        if rng.random() < 0.25:
+            desk.call(*lists.turn_call(rng, desk.model))
         if n % 20 == 0:
             desk.look(rng)
     desk.whole()
@@ -260,43 +265,61 @@ def damaged(engine, rng, desk):
             store[:] = layout.tailed(store, random_tail(rng, desk.model))
         for _ in range(rng.choice([0, 1, 1, 1, 2])):
             damage(rng, store, copy, desk.model.last())
-        commit, n = ('commit', seat, rng.getrandbits(32), ALL), rng.choice([0, 1, 2, 33])
-        name, _, *args = lists.random_call(rng, desk.model) if rng.random() < 0.6 else rng.choice([commit, ('commit_cut', *commit[1:], n), ('clear_cut', seat, n)])
-        on_buffers(engine, f'{name} {args} on damaged buffers', name, args, store, copy)
+        ready = sum(1 << i for i in lists.current(desk.model, seat))
+        commit, n = (seat, rng.getrandbits(32), rng.choice([ALL, ready or ALL])), rng.choice([0, 1, 2, 33])
+        some = [('commit', *commit), *[('commit_cut', *commit, n), ('turn_commit', *commit)] * 2, ('clear_cut', seat, n)]
+        name, _, *args = lists.random_call(rng, desk.model) if rng.random() < 0.5 else rng.choice(some)
+        turn = rng.choice([[seat, seat % 4 + 1, 0, 0], [rng.randint(0, 5) for _ in range(4)], desk.turn])
+        on_buffers(engine, f'{name} {args} with {turn} on damaged buffers', name, args, store, copy, turn)
 
 
-def on_buffers(engine, what, name, args, store, copy):
-    """A call on buffers of any origin: the refusal that comes first and nothing changed, or as the model does it. Its answer."""
+def on_buffers(engine, what, name, args, store, copy, turn=turns.FREE):
+    """A call on buffers of any origin, through a turn record if it is such a commit: the refusal that comes first and nothing changed, or as the model does it. Its
+    answer."""
     global calls
     calls += 1
     before = bytes(store), bytes(copy)
     number = accept.refusal(store, None if name in STORE_ONLY else copy, name in COMMITS)
     if number == 14:
         lists.seen[f'14 before {accept.refusal(store, copy)}'] += 1
-    if number and name in ('commit_cut', 'clear_cut'):
+    if number and name in ('commit_cut', 'clear_cut', 'turn_commit'):
         lists.seen[f'{name} gives {number}'] += 1
         lists.seen[f'{name} refused at 0'] += args[-1] == 0
-    got = engine.call(name, store, copy, *args)
+    got = engine.call(name, store, copy, *args, turn=turn)
     if number:
         if got != ('no', number):
             fail(f'{what}: {got}, not {number}')
         if (bytes(store), bytes(copy)) != before:
             fail(f'{what} changed a buffer')
     else:
-        accepted(what, name, args, got, before, store, copy)
+        accepted(what, name, args, got, before, store, copy, turn)
     return got
 
 
-def accepted(what, name, args, got, before, store, copy):
+def on_record(engine, what, name, args, turn):
+    """A call on a turn record of any numbers: its answer and the record after it, as the model has them. Its answer."""
+    global calls
+    calls += 1
+    before = tuple(turn)
+    wanted = turns.called(before, name, *args)
+    got = engine.on_record(name, turn, *args)
+    if (got, tuple(turn)) != wanted:
+        fail(f'{what}: {name} {args} on {before}: {got} and {turn}, not {wanted}')
+    return got
+
+
+def accepted(what, name, args, got, before, store, copy, turn):
     """A call on buffers of any origin that are accepted."""
     model = sheets.Machine(len(store) // 512)
     model.history, model.used, model.tail = layout.history_of(before[0])
-    seat = 1
+    model.turn, seat = tuple(turn), 1
     if name not in STORE_ONLY:
         seat = before[1][1]
         model.seats[seat] = layout.entries_of(before[1])
     [wanted], wanted_store = played(model, before[0], [(name, seat, *args)])
     lists.seen[f'{name} stopped'] += wanted == ('stopped',)
+    if wanted[0] == 'no':
+        lists.seen[f'{name} gives {wanted[1]}'] += 1
     if got != wanted:
         fail(f'{what}: {got}, not {wanted}')
     if store != wanted_store:

@@ -1,7 +1,8 @@
-"""The engine through its C library, for tests: builds it and wraps each call. Buffers are bytearrays that the calls change in place.
+"""The engine through its C library, for tests: builds it and wraps each call. Buffers are bytearrays that the calls change in place, a turn record is a list of four
+numbers likewise.
 
 Answers are those of tests/model: ('no', number), ('done',), ('revision', R), ('stopped',), ('bytes', bytes, number or None), ('status', 0 to 8, number),
-('log', ..).
+('log', ..), ('holder', seat or 0).
 """
 import ctypes, os, pathlib, subprocess
 
@@ -25,11 +26,16 @@ class Standing(ctypes.Structure):
     _fields_ = [('refusal', u32), ('status', u32), ('revision', u32)]
 
 
+class Turn(ctypes.Structure):
+    _fields_ = [(n, u32) for n in ('holder', 'first', 'second', 'third')]
+
+
 class LogEntry(ctypes.Structure):
     _fields_ = [(n, u32) for n in ('refusal', 'seat', 'stamp', 'changes', 'action', 'source_sheet', 'source_revision')]
 
 
 RESULTS = dict(read=Place, show=Place, status=Standing, log=LogEntry, commit_cut=CutAnswer, clear_cut=CutAnswer)  # of the other calls Answer
+NAMES = dict(ask='turn_ask', give='turn_give', take='turn_take', turn_commit='commit_in_turn')  # the other calls have their names in C too
 
 
 def build():
@@ -58,8 +64,8 @@ class Engine:
         """What the C call hands back. Refused, all but the refusal is zero."""
         flat = []
         for a in args:
-            flat.extend(self.lent(a) if isinstance(a, (bytes, bytearray)) else (u32(a),))
-        f = getattr(self.library, 'sheets_' + name)
+            flat.extend(self.lent(a) if isinstance(a, (bytes, bytearray)) else (u32(a) if isinstance(a, int) else a,))
+        f = getattr(self.library, 'sheets_' + NAMES.get(name, name))
         f.restype = RESULTS.get(name, Answer)
         r = f(*flat)
         assert not r.refusal or not any(getattr(r, field) for field, _ in r._fields_[1:])
@@ -72,8 +78,10 @@ class Engine:
         if name in ('commit_cut', 'clear_cut') and r.stopped:
             assert (r.stopped, r.value) == (1, 0)
             return ('stopped',)
-        if name in ('commit', 'commit_cut'):
+        if name in ('commit', 'commit_cut', 'turn_commit'):
             return ('revision', r.value)
+        if name in ('ask', 'give', 'take'):
+            return ('holder', r.value)
         assert r.value == 0
         return ('done',)
 
@@ -125,8 +133,19 @@ class Engine:
     def replay(self, script, store, copies, answers):
         return self._answer('replay', script, store, copies, answers)
 
-    def call(self, name, store, copy, *args):
-        """A call as the model names it, on the two buffers."""
+    def on_record(self, name, turn, *seat):
+        """A call on the turn record, which C takes by its address."""
+        record = Turn(*turn)
+        answer = self._answer(name, ctypes.byref(record), *seat)
+        turn[:] = (getattr(record, field) for field, _ in Turn._fields_)
+        return answer
+
+    def call(self, name, store, copy, *args, turn=None):
+        """A call as the model names it, on the two buffers, the turn record or all three."""
+        if name in ('ask', 'give', 'take'):
+            return self.on_record(name, turn, *args)
+        if name == 'turn_commit':  # C takes the record by value
+            return self._answer(name, store, copy, Turn(*turn), *args)
         if name in ('read', 'log', 'clear', 'clear_cut'):
             return getattr(self, name)(store, *args)
         if name in ('show', 'status'):

@@ -1,12 +1,13 @@
 #!/usr/bin/env python3
-"""Computes the machine of crates/model by the prover on whole lists of calls, and holds it to lists made elsewhere.
+"""Computes the machine of crates/model and the turn record of crates/turns by the prover on whole lists of calls, and holds them to lists made elsewhere.
 
 lists.py FILE        every list of a file of lists, one JSON object a line: see tests/vectors/README.md
-lists.py --random N [SEED]   a list of N random calls by four seats, with the answers and the end of tests/model; it begins on a fresh store with a tail
+lists.py --random N [SEED]   a list of N random calls by four seats, and N / 4 more, of which half are on the turn record or through it, with the answers and the
+                     end of tests/model; it begins on a fresh store with a tail
 
-For each list two theorems by `refl` are written to target/lists: the machine's answers are those of the list, and its
-state at the end is the list's. A power cut is no call: a list that has some is cut there, and each part begins in the
-state that tests/model has after the cut. Then the prover checks them.
+For each list two theorems by `refl` are written to target/lists: the answers are those of the list, and the machine's
+state and the record at the end are the list's. A power cut is no call: a list that has some is cut there, and each part
+begins in the state that tests/model has after the cut. Then the prover checks them.
 """
 import argparse, collections, json, os, pathlib, random, subprocess, sys, weakref
 
@@ -16,6 +17,7 @@ import sheets
 
 NAMES = dict(add='Add', edit='Edit', delete='Delete', copy='Copy', move='Move', commit='Commits', update='Update',
              revert='Revert', read='Read', show='Show', status='Status', log='Log', clear='Clears', commit_cut='CommitsCut', clear_cut='ClearsCut')
+ON_RECORD = dict(ask='Ask', give='Give', take='TakeBack')
 HEAD = '''use mathlib.Core.Path.{_≡_, refl}
 use mathlib.Core.List.{List, [], _∷_}
 use lib.ListN.{replicate}
@@ -24,8 +26,9 @@ use Rattle.model.specs.Entry.{Entry, empty, normal, added, deleted, copied}
 use Rattle.model.specs.Machine.{State, fresh}
 use Rattle.model.specs.Machine.{Add, Edit, Delete, Copy, Move, Commits, Update, Revert, Read, Show, Status, Log, Clears, CommitsCut, ClearsCut}
 use Rattle.model.specs.Machine.{Answer, refused, done, revision, stopped, bytes, status, logged}
-use Rattle.model.specs.Run.{Turn, run, answers}
 use Rattle.model.proofs.Play.{_does_}
+use Rattle.turns.specs.Turns.{Ask, Give, TakeBack, noTurn, heldBy, free, queueOf, inForm, turnCall}
+use Rattle.turns.specs.Mixed.{Move as AnyCall, plain, turns, commits, said, held, Table, table, moved, saidBy}
 
 '''
 
@@ -41,10 +44,21 @@ def data(b):
 
 
 def call(name, seat, *args):
-    return f'{seat} does ' + ' '.join([NAMES[name], *(data(x) if isinstance(x, bytes) else str(x) for x in args)])
+    if name in ON_RECORD:
+        return f'turns ({" ".join([ON_RECORD[name], *map(str, args)])})'
+    if name == 'turn_commit':
+        return ' '.join(['commits', str(seat), *map(str, args)])
+    return f'plain ({seat} does ' + ' '.join([NAMES[name], *(data(x) if isinstance(x, bytes) else str(x) for x in args)]) + ')'
 
 
-def answer(a):
+def answer(name, a):
+    """What a call answers: one on the record, or any other."""
+    if name in ON_RECORD:
+        return f'held ({"noTurn" if a[0] == "no" else "heldBy"} {a[1]})'
+    return f'said ({told_by_machine(a)})'
+
+
+def told_by_machine(a):
     if a[0] == 'log':
         action, source = a[4] or (0, None)
         return 'logged ' + ' '.join(map(str, (*a[1:4], action, *(source or (0, 0)))))
@@ -70,23 +84,25 @@ def entry(e):
     }[e[0]]()
 
 
-def state(n, used, tail, history, seats):
+def state(n, used, tail, history, seats, turn):
     commits = cons(f'record {{ seat = {seat}; stamp = {stamp}; changes = {cons(change(cs.get(i)) for i in range(32))} }}' for seat, stamp, cs in history)
     rows = cons(f'({cons(map(entry, seats[k]))})' for k in (1, 2, 3, 4))
-    return f'record {{ blocks = {n}; used = {used}; tail = {tail}; history = {commits}; seats = {rows} }}'
+    return f'table (record {{ blocks = {n}; used = {used}; tail = {tail}; history = {commits}; seats = {rows} }}) ({cons(map(str, turn))})'
 
 
 def theorems(n, calls, answers, *end, start=None):
-    """The theorems of a list: blocks, calls, answers, and at the end used blocks, those of the tail, history and entries. It starts fresh, or as given."""
-    return (HEAD + f'abbrev calls : List Turn\ncalls = {cons(call(*c) for c in calls)}\n\n'
-            f'abbrev start : State\nstart = {state(n, *start) if start else f"fresh {n}"}\n\n'
-            f'said : answers start calls ≡ {cons(map(answer, answers))}\nunfolding tree\nsaid = refl\n\n'
-            f'left : run start calls ≡ {state(n, *end)}\nunfolding tree\nleft = refl\n')
+    """The theorems of a list: blocks, calls, answers, and at the end used blocks, those of the tail, history, entries and the record. It starts fresh, or as
+    given."""
+    unfolds = 'unfolding tree queueOf inForm turnCall'
+    return (HEAD + f'abbrev calls : List AnyCall\ncalls = {cons(call(*c) for c in calls)}\n\n'
+            f'abbrev start : Table\nstart = {state(n, *start) if start else f"table (fresh {n}) free"}\n\n'
+            f'answered : saidBy start calls ≡ {cons(answer(c[0], a) for c, a in zip(calls, answers))}\n{unfolds}\nanswered = refl\n\n'
+            f'left : moved start calls ≡ {state(n, *end)}\n{unfolds}\nleft = refl\n')
 
 
 def stands(m):
-    """What stands in a machine, apart from it: used blocks, those of the tail, history and entries."""
-    return m.used, m.tail, list(m.history), {k: list(entries) for k, entries in m.seats.items()}
+    """What stands in a machine, apart from it: used blocks, those of the tail, history, entries and the record."""
+    return m.used, m.tail, list(m.history), {k: list(entries) for k, entries in m.seats.items()}, m.turn
 
 
 def parts(n, calls, answers, *end):
@@ -106,14 +122,14 @@ def parts(n, calls, answers, *end):
 
 
 def from_json(l):
-    """A list of a file in the model's terms: blocks, calls, answers, and at the end used blocks, those of the tail, history and entries."""
+    """A list of a file in the model's terms: blocks, calls, answers, and at the end used blocks, those of the tail, history, entries and the record."""
     tuples = lambda x: tuple(map(tuples, x)) if isinstance(x, list) else x
     hexed = lambda x: None if x is None else bytes.fromhex(x)
 
     def args(c):
         if c[0] == 'power':  # the call, the number of its write, and how that block is found
             return ('power', 1, args(c[1]), *c[2:])
-        seat, rest = (1, c[1:]) if c[0] in ('read', 'log', 'clear', 'clear_cut') else (c[1], c[2:])
+        seat, rest = (1, c[1:]) if c[0] in ('read', 'log', 'clear', 'clear_cut', *ON_RECORD) else (c[1], c[2:])
         return (c[0], seat, *(hexed(x) if isinstance(x, str) else x for x in rest))
 
     def said(a):
@@ -132,7 +148,7 @@ def from_json(l):
     for k, entries in end['entries'].items():
         for i, e in entries.items():
             seats[int(k)][int(i)] = entry_of(e)
-    return l['n'], [args(c) for c in l['calls']], [said(a) for a in l['answers']], end['used'], end['tail'], history, seats
+    return l['n'], [args(c) for c in l['calls']], [said(a) for a in l['answers']], end['used'], end['tail'], history, seats, tuples(end['turn'])
 
 
 # ---- random calls
@@ -140,6 +156,8 @@ def from_json(l):
 W2, W3 = 'W2, entries of updates', 'W3, numbers'
 CLEARS, BESIDE, TAILS, FIRST = 'W5, clears and 14', 'W5, beside a tail', 'W5, tails', 'W5, commits of damaged copies'
 CUTS, NO_ROOM, DAMAGED = 'W6, cut calls', 'W6, no room', 'W6, cut calls on damaged buffers'
+TURNS = RECORD, THROUGH, TURN_NO_ROOM, TURN_DAMAGED = ('W7, calls on the record', 'W7, commits through it', 'W7, no room',
+                                                       'W7, commits through it on damaged buffers')
 COUNTED = {
     W2: ('modified that agree', 'added that agree', 'copied that agree', 'empty that agree', 'that agree with an older tree alone', 'that agree beside a conflict',
          'conflicts equal to the last tree alone', 'conflicts of equal length', 'conflicts deleted by both'),
@@ -159,10 +177,17 @@ COUNTED = {
     NO_ROOM: ('cut commits refused with 13',),
     DAMAGED: (*(f'commit_cut gives {n}' for n in (1, 2, 3, 4, 5, 6, 14)), *(f'clear_cut gives {n}' for n in (1, 2, 3)), 'commit_cut refused at 0',
               'clear_cut refused at 0', 'commit_cut stopped', 'clear_cut stopped'),
+    RECORD: ('asks that get the turn', 'asks that join the end', 'asks while holding', 'asks while waiting', 'asks refused with 7', 'givings that pass it on',
+             'givings that leave nobody', 'givings by a waiting seat', 'givings by a seat not in line', 'givings when nobody holds', 'givings refused with 7',
+             'takings that pass it on', 'takings that leave nobody', 'takings when nobody holds'),
+    THROUGH: ('commits through', *(f'through, refused with {n}' for n in (7, 10, 11, 14, 15)), '15 when nobody holds', '15 for a waiting seat',
+              '15 for a seat not in line', '15 where a commit would be done', '15 where a commit gives 10', '15 where a commit gives 11'),
+    TURN_NO_ROOM: ('through, refused with 13', '15 where a commit gives 13'),
+    TURN_DAMAGED: tuple(f'turn_commit gives {n}' for n in (1, 2, 3, 4, 5, 6, 7, 14, 15)),
 }
 seen = collections.Counter()
 since = weakref.WeakKeyDictionary()  # machines on whose store a commit stopped and left blocks, and whether these were cleared since
-IN_LIST, FOUND = (W2, W3, CLEARS, CUTS), 3  # what the prover's random list meets, and the blocks of the tail that it begins with
+IN_LIST, THEN, FOUND = (W2, W3, CLEARS, CUTS), (RECORD, THROUGH), 3  # what the prover's random list meets, and the blocks of the tail that it begins with
 
 
 def met(m, seat, mask, revision):
@@ -226,7 +251,7 @@ def told(m, name, seat, args, answer):
 def twin(m):
     """The same machine, apart."""
     other = sheets.Machine(m.blocks)
-    other.history, other.used, other.tail = list(m.history), m.used, m.tail
+    other.history, other.used, other.tail, other.turn = list(m.history), m.used, m.tail, m.turn
     other.seats = {k: list(entries) for k, entries in m.seats.items()}
     return other
 
@@ -263,6 +288,29 @@ def cut_clearing(n, tail):
         yield 'clearings stopped before the last block'
 
 
+def on_record(before, name, args, answer):
+    """What of W7 a call on this record meets."""
+    holder, seat = before[0], args[0] if args else before[0]  # taking back is as giving back by the holder
+    what = {'ask': 'asks', 'give': 'givings', 'take': 'takings'}[name]
+    if answer[0] == 'no':
+        return f'{what} refused with {answer[1]}'
+    if holder == 0:
+        return what + (' that get the turn' if name == 'ask' else ' when nobody holds')
+    if name == 'ask':
+        return what + (' while holding' if seat == holder else ' while waiting' if seat in before else ' that join the end')
+    if seat == holder:
+        return what + (' that pass it on' if before[1] else ' that leave nobody')
+    return what + (' by a waiting seat' if seat in before else ' by a seat not in line')
+
+
+def through(m, seat, bare, answer):
+    """What of W7 a commit through the record meets, where a commit answers as `bare`."""
+    yield 'commits through' if answer[0] == 'revision' else f'through, refused with {answer[1]}'
+    if answer == ('no', 15):
+        yield '15 when nobody holds' if m.turn[0] == 0 else '15 for a waiting seat' if seat in m.turn else '15 for a seat not in line'
+        yield '15 where a commit would be done' if bare[0] == 'revision' else f'15 where a commit gives {bare[1]}'
+
+
 def goes_on(m, name, tail, answer):
     """Whether the call is a commit after a stopped one left blocks and these were cleared."""
     if answer[0] == 'stopped' and name == 'commit_cut' and m.tail:
@@ -281,12 +329,17 @@ def found(m, tail):
 
 
 def made(m, call):
-    """The model makes the call. What of W2, W3, W5 and W6 it meets is counted."""
+    """The model makes the call. What of W2, W3, W5, W6 and W7 it meets is counted."""
     name, seat, *args = call
     if name == 'update' and args[1] <= m.last():
         seen.update(met(m, *call[1:]))
     tail, blocks = m.tail, m.asked(seat, *args[:2])[2] if name == 'commit_cut' else 0
+    turn, bare = m.turn, twin(m).call('commit', seat, *args) if name == 'turn_commit' else None
     answer = m.call(*call)
+    if name in ON_RECORD:
+        seen[on_record(turn, name, args, answer)] += 1
+    elif name == 'turn_commit':
+        seen.update(through(m, seat, bare, answer))
     if name == 'clear':
         seen['clears of a tail' if tail else 'clears without a tail'] += 1
     elif name == 'clear_cut':
@@ -343,13 +396,20 @@ def cut(rng, m, commit):
 
 
 def to_cut(rng, m):
-    """A call that leads to W6. A clearing of a tail, mostly cut, or a commit beside it; a cut commit of what a seat can commit; or one more sheet for that."""
+    """A call that leads to W6. A clearing of a tail, mostly cut, or a commit beside it; a cut commit of what a seat can commit, or of what takes no content block; or
+    one more sheet for that."""
     if m.tail:
         seat, n = rng.randint(1, 4), rng.choice([0, 1, m.tail - 1, m.tail, m.tail + 1, rng.randint(0, m.tail)])
         commit = ('commit', seat, rng.getrandbits(32), 0xffffffff)
         return rng.choice([('clear', seat), *[('clear_cut', seat, n)] * 3, commit, cut(rng, m, commit)])
-    seat = max((1, 2, 3, 4), key=lambda seat: len(current(m, seat)))
-    ready, tree = current(m, seat), m.tree(m.last())
+    can = {k: current(m, k) for k in m.seats}
+    light = [(k, sum(1 << i for i in can[k] if not m.content(m.change(i, m.seats[k][i])))) for k in can]
+    light = [(k, mask) for k, mask in light if mask]
+    if light and rng.random() < 0.15:
+        seat, mask = rng.choice(light)
+        return cut(rng, m, ('commit', seat, rng.getrandbits(32), mask))
+    seat, tree = max(can, key=lambda k: len(can[k])), m.tree(m.last())
+    ready = can[seat]
     free = [i for i, e in enumerate(m.seats[seat]) if e == sheets.EMPTY and i not in tree]
     if free and (len(ready) < 2 or rng.random() < 0.3):
         return ('add', seat, rng.choice(free), bytes(rng.choice([0, 1, 2])))
@@ -377,6 +437,27 @@ def random_call(rng, m):
     if name == 'commit_cut':
         return cut(rng, m, ('commit', rng.randint(1, 4), *args['commit']()))
     return (name, rng.randint(1, 4), *args[name]())
+
+
+def turn_call(rng, m):
+    """A call on the turn record, or one that leads to a commit through it: mostly by the holder, of what the seat can commit, or one more sheet for that."""
+    name, seat, holder = rng.choice(['ask', 'ask', 'ask', 'give', 'give', 'take', *['turn_commit'] * 5]), rng.randint(1, 4), m.turn[0]
+    if name == 'take':
+        return ('take', 1)
+    if name != 'ask' and holder and rng.random() < 0.6:
+        seat = holder
+    if name != 'turn_commit':
+        return (name, 1, seat if rng.random() < 0.95 else rng.choice([0, 5, 255, 256, 256 + seat, 65536 + seat, 2 ** 31 + seat, 2 ** 32 - 1]))
+    ready, tree = current(m, seat), m.tree(m.last())
+    free = [i for i, e in enumerate(m.seats[seat]) if e == sheets.EMPTY and i not in tree]
+    if not ready and free and rng.random() < 0.5:
+        return ('add', seat, rng.choice(free), bytes(rng.choice([0, 1, 2])))
+    return ('turn_commit', seat, rng.getrandbits(32), rng.choice([0xffffffff, 1 << rng.randrange(32), 0, *[sum(1 << i for i in ready or range(32))] * 4]))
+
+
+def any_call(rng, m):
+    """A call of any kind."""
+    return turn_call(rng, m) if rng.random() < 0.5 else random_call(rng, m)
 
 
 def same_edit(rng, m):
@@ -418,26 +499,36 @@ def look(rng, m):
     return rng.choice([('read', seat, rng.randint(1, m.last()), sheet), ('show', seat, sheet), ('status', seat, sheet), ('status', seat, sheet)])
 
 
-def random_list(count, seed):
-    """Random calls by four seats on a store that is found with a tail: the seed's first list that has all of IN_LIST, if one of sixty has."""
+def random_calls(seed, m, count, choose, requests):
+    """Random calls on a machine like m: the seed's first list of so many that meets all of these requests, if one of sixty does. The calls, the answers and the
+    machine after them."""
+    before = collections.Counter(seen)
     for n in range(60):
-        rng, m, calls, answers = random.Random(f'{seed} {n}'), sheets.Machine(4096), [], []
-        found(m, FOUND)
-        start = stands(m)
+        rng, after, calls, answers = random.Random(f'{seed} {n}'), twin(m), [], []
         seen.clear()
+        seen.update(before)
         while len(calls) < count:
-            calls.append(random_call(rng, m))
-            answers.append(made(m, calls[-1]))
-        if not unmet(IN_LIST):
+            calls.append(choose(rng, after))
+            answers.append(made(after, calls[-1]))
+        if not unmet(requests):
             break
-    return theorems(4096, calls, answers, *stands(m), start=start), len(calls)
+    return calls, answers, after
+
+
+def random_list(count, seed):
+    """Random calls by four seats on a store that is found with a tail, then a quarter as many of any kind: the theorems, and how many calls."""
+    m = sheets.Machine(4096)
+    found(m, FOUND)
+    calls, answers, between = random_calls(seed, m, count, random_call, IN_LIST)
+    more, said, end = random_calls(seed, between, count // 4, any_call, THEN)
+    return theorems(4096, calls + more, answers + said, *stands(end), start=stands(m)), len(calls + more)
 
 
 def main():
     if len(sys.argv) >= 3 and sys.argv[1] == '--random':
         text, calls = random_list(int(sys.argv[2]), int(sys.argv[3]) if len(sys.argv) > 3 else 1)
         count, texts = 1, [text]
-        if tally(int(sys.argv[2]) >= 1000, IN_LIST):
+        if tally(int(sys.argv[2]) >= 1000, IN_LIST + THEN):
             sys.exit(1)
     elif len(sys.argv) == 2:
         lists = [from_json(json.loads(line)) for line in open(sys.argv[1])]
@@ -449,12 +540,14 @@ def main():
     subprocess.run(['rm', '-rf', str(crate)])
     for folder in (crate / 'src', crate / 'specs', crate / 'proofs', repo / 'target' / 'rlib', repo / 'target' / 'stamp'):
         folder.mkdir(parents=True, exist_ok=True)
-    for name in ('block', 'model'):
+    needs = dict(line.split(':') for line in (ROOT / 'crates.txt').read_text().splitlines() if line and line[0] != '#')
+    names = [*needs['turns'].split(), 'turns']
+    for name in names:
         # with what is proved of it already: rt looks whether that is still so
         for path in (f'crates/{name}', f'target/rlib/{name}.rlib', f'target/stamp/{name}'):
             if (ROOT / path).exists():
                 subprocess.run(['cp', '-rT', str(ROOT / path), str(repo / path)], check=True)
-    (repo / 'crates.txt').write_text('block:\nmodel: block\nlists: block model\n')
+    (repo / 'crates.txt').write_text(''.join(f'{name}:{needs[name]}\n' for name in names) + f'lists: {" ".join(names)}\n')
     (crate / 'src' / 'lib.rt').write_text('// Lists of calls, computed: see proofs/.\n')
     (crate / 'specs' / 'Lib.antt').write_text('')
     (crate / 'proofs' / 'Lib.antt').write_text(''.join(f'pub mod List{i}\n' for i in range(len(texts))))

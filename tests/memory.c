@@ -1,12 +1,14 @@
-/* Random calls and replays by four seats, good and damaged buffers, each lent as a piece of memory of its exact size.
+/* Random calls, replays and calls on a turn record by four seats, good and damaged buffers and records, each lent as a piece of memory of its exact size.
  *
  *     memory SEED CALLS heap     pieces from malloc, for valgrind and AddressSanitizer to watch
  *     memory SEED CALLS pages    pieces that end, or start, at a page that cannot be touched; those lent as const lie in pages that cannot be written
  *
  * Now and then the store is found with a tail (W5), or a cut call leaves one (W6). A refused call must leave its buffers as they were and carry no revision, a part of
  * the store must carry one, and a part of a copy none; a commit that is done or stops found no tail, and a clear leaves the history and zeros. A commit that stops
- * leaves the copy's bytes as they were, the history, n blocks of content and zeros; a clear that stops leaves all but the n highest blocks of the tail. Exits 1, with
- * the seed and the call's number, if that is not so. A touch of a byte outside a piece ends the program.
+ * leaves the copy's bytes as they were, the history, n blocks of content and zeros; a clear that stops leaves all but the n highest blocks of the tail. A commit in
+ * turn (W7) must leave its record, and be the plain commit of the same buffers or refused for the record; a call on a record is refused with 7 exactly if the seat or
+ * the record is wrong, leaves the record then, and answers the holder otherwise. Exits 1, with the seed and the call's number, if that is not so. A touch of a byte
+ * outside a piece ends the program.
  */
 #define _DEFAULT_SOURCE
 #include "sheetstore.h"
@@ -74,7 +76,8 @@ static void give_back(struct piece p) {
 
 static uint8_t store[MAX_STORE], copies[COPIES_LEN], hurt_store[MAX_STORE], hurt_copies[COPIES_LEN + SHEETS_BLOCK];
 static size_t store_len;
-static unsigned long answered[15], replayed[15], cleared, stopped_commits, stopped_clears;
+static sheets_turn turn;
+static unsigned long answered[16], replayed[16], committed_in_turn[16], turned[16], cleared, stopped_commits, stopped_clears;
 
 static void seal(uint8_t *block) {
     uint32_t a = 0, b = 0;
@@ -153,12 +156,78 @@ static void damage(uint8_t *buffer, size_t *len) {
     if (below(8) != 0) seal(block);
 }
 
+/* ---- turn records */
+
+/* A seat, or now and then a number that is none, as a seat with one more bit. */
+static uint32_t some_seat(void) {
+    return below(16) ? 1 + below(4) : below(2) ? below(6) : (1 + below(4)) | 1u << (3 + below(29));
+}
+
+static bool in_form(sheets_turn t) {
+    uint32_t numbers[] = {t.holder, t.first, t.second, t.third}, seen = 0;
+    for (int i = 0; i < 4; i++) {
+        if (numbers[i] > 4 || (seen >> numbers[i] & 1)) return false;
+        seen |= numbers[i] != 0 ? 1u << numbers[i] : 0x1e; /* after a 0 every seat is wrong */
+    }
+    return true;
+}
+
+/* Some seats in a random order, the first of them often the one named; now and then with a fault. */
+static sheets_turn some_turn(uint32_t seat) {
+    uint32_t numbers[] = {1, 2, 3, 4}, seats = below(8) ? 1 + below(4) : 0;
+    bool holds = below(4) != 0;
+    for (uint32_t i = 0; i < 4; i++) {
+        uint32_t j = i + below(4 - i), number = numbers[j];
+        numbers[j] = numbers[i], numbers[i] = number;
+    }
+    for (uint32_t i = 1; i < 4; i++)
+        if (holds && numbers[i] == seat) numbers[i] = numbers[0], numbers[0] = seat;
+    for (uint32_t i = seats; i < 4; i++) numbers[i] = 0;
+    if (below(8) == 0) numbers[below(4)] = below(2) ? below(6) : some_seat();
+    return (sheets_turn){numbers[0], numbers[1], numbers[2], numbers[3]};
+}
+
+/* A call on a record at the end of a piece of memory, at any multiple of 4. The record that it leaves is kept. Answers whether that, or the answer, is wrong. */
+static bool take_turns(void) {
+    static const uint8_t nothing[7 * 4];
+    uint32_t kind = below(5), seat = some_seat(), lead = below(2) ? 0 : 4 * below(4);
+    sheets_turn before = below(4) ? turn : some_turn(seat);
+    struct piece p = lend(nothing, lead + sizeof before, true);
+    sheets_turn *t = (sheets_turn *)(p.bytes + lead);
+    *t = before;
+    sheets_answer a = kind < 2 ? sheets_turn_ask(t, seat) : kind < 4 ? sheets_turn_give(t, seat) : sheets_turn_take(t);
+    turned[a.refusal]++;
+    bool bad = !in_form(before) || (kind < 4 && (seat < 1 || seat > 4)), same = memcmp(t, &before, sizeof before) == 0;
+    bool wrong = a.refusal != (bad ? 7 : 0) || (bad && (!same || a.value != 0)) || (!bad && (!in_form(*t) || a.value != t->holder));
+    wrong |= memcmp(p.bytes, nothing, lead) != 0;
+    if (a.refusal == 0) turn = *t;
+    give_back(p);
+    return wrong;
+}
+
+/* A commit in turn of these buffers, beside a plain one of the same: its refusal, or 16 where it is neither that nor refused for the record. */
+static uint32_t commit_in_turn(struct piece s, struct piece c, uint32_t stamp, uint32_t mask) {
+    uint32_t seat = c.bytes[1];
+    sheets_turn record = below(4) ? some_turn(seat) : turn;
+    struct piece t = lend((const uint8_t *)&record, sizeof record, false), plain_s = lend(s.bytes, s.len, true), plain_c = lend(c.bytes, c.len, true);
+    sheets_answer plain = sheets_commit(plain_s.bytes, plain_s.len, plain_c.bytes, plain_c.len, stamp, mask);
+    sheets_answer a = sheets_commit_in_turn(s.bytes, s.len, c.bytes, c.len, *(const sheets_turn *)t.bytes, stamp, mask);
+    committed_in_turn[a.refusal]++;
+    bool own = (plain.refusal >= 1 && plain.refusal <= 7) || plain.refusal == SHEETS_REFUSED_TAIL; /* a line before those of the record */
+    uint32_t by_record = own ? 0 : !in_form(record) ? SHEETS_REFUSED_RANGE : record.holder != seat ? SHEETS_REFUSED_NOT_HOLDING : 0;
+    bool same = memcmp(s.bytes, plain_s.bytes, s.len) == 0 && memcmp(c.bytes, plain_c.bytes, c.len) == 0;
+    bool wrong = by_record != 0 ? a.refusal != by_record || a.value != 0 : a.refusal != plain.refusal || a.value != plain.value || !same;
+    wrong |= memcmp(t.bytes, &record, sizeof record) != 0;
+    give_back(t), give_back(plain_s), give_back(plain_c);
+    return wrong ? 16 : a.refusal;
+}
+
 /* One call on pieces of memory with these buffers; what it leaves goes back into them. Answers whether a refused call changed one, or an answer is wrong. */
 static bool call(uint8_t *store_at, size_t store_size, uint8_t *copy_at, size_t copy_size) {
     static const uint32_t some[] = {0, 1, 2, 3, 5, 31};
     uint32_t sheet = below(8) ? some[below(6)] : below(34), other = below(8) ? some[below(6)] : below(34);
     uint32_t mask = below(3) ? UINT32_MAX : below(2) ? 1u << sheet % 32 : below(4) * 0x01234567u, revision = below(below(2) ? 4 : 40);
-    uint32_t kind = below(24), n = below(2) ? below(3) : below(2) ? below(34) : UINT32_MAX - below(2), stopped = 0;
+    uint32_t kind = below(28), n = below(2) ? below(3) : below(2) ? below(34) : UINT32_MAX - below(2), stopped = 0;
     bool clears = kind == 12 || kind == 13, commits = kind > 13;
     uint8_t text[481];
     size_t text_len = below(16) == 0 ? 480 + below(2) : below(4);
@@ -203,6 +272,10 @@ static bool call(uint8_t *store_at, size_t store_size, uint8_t *copy_at, size_t 
         if (clears && refusal > SHEETS_REFUSED_STORE_LAYOUT) return true;
         break;
     }
+    case 19: case 20: case 21: case 22:
+        refusal = commit_in_turn(s, c, below(UINT32_MAX), mask);
+        if (refusal > SHEETS_REFUSED_NOT_HOLDING) return true;
+        break;
     default: refusal = sheets_commit(s.bytes, s.len, c.bytes, c.len, below(UINT32_MAX), mask).refusal;
     }
     answered[refusal]++;
@@ -288,7 +361,7 @@ static bool fresh(size_t blocks) {
 
 static void tell(const char *what, const unsigned long *by_refusal) {
     printf("%s: done %lu; refused", what, by_refusal[0]);
-    for (int n = 1; n < 15; n++) printf("%s %d: %lu", n == 1 ? "" : ",", n, by_refusal[n]);
+    for (int n = 1; n < 16; n++) printf("%s %d: %lu", n == 1 ? "" : ",", n, by_refusal[n]);
     printf("\n");
 }
 
@@ -304,6 +377,7 @@ int main(int argc, char **argv) {
     for (unsigned long k = 0; k < count; k++) {
         bool wrong = false;
         if (k % 200 == 0) wrong |= fresh(sizes[below(64) == 0 ? 8 : below(8)]);
+        if (below(4) == 0) wrong |= take_turns();
         bool replays = below(8) == 0; /* else one call, with the copy of one seat */
         uint8_t *copy = replays ? copies : copies + below(4) * SHEETS_COPY_LEN;
         size_t copy_len = replays ? COPIES_LEN : SHEETS_COPY_LEN;
@@ -324,7 +398,9 @@ int main(int argc, char **argv) {
         }
     }
     tell("calls", answered);
+    tell("commits in turn", committed_in_turn);
     tell("replays", replayed);
+    printf("calls on a turn record: done %lu; refused 7: %lu\n", turned[0], turned[7]);
     printf("tails cleared: %lu; commits stopped: %lu; clears stopped: %lu\n", cleared, stopped_commits, stopped_clears);
     return 0;
 }

@@ -1,18 +1,19 @@
 #!/usr/bin/env python3
-"""Lists and calls with known answers, on the engine's C library and on tests/model: samples that were made elsewhere, and lists written by hand from W2, W3, W5 and
-W6.
+"""Lists and calls with known answers, on the engine's C library and on tests/model: samples that were made elsewhere, and lists written by hand from W2, W3, W5, W6
+and W7.
 
 samples.py FILE..
 
-A file of lists (its name ends in `lists.jsonl`): each list call by call and as a script; every answer, and at the end the used blocks, the history, the entries
-and the sha256 of every buffer. A file of cases (`cases.jsonl`): each call on the buffers that it is handed, good or damaged; its answer and every byte after it.
+A file of lists (its name ends in `lists.jsonl`): each list call by call and as scripts; every answer, and at the end the used blocks, the history, the entries, the
+turn record and the sha256 of every buffer. A script has no calls on the record and no commits through it: these are made by themselves, between two scripts. A file
+of cases (`cases.jsonl`): each call on the buffers and the record that it is handed, good or damaged; its answer and every byte after it.
 tests/vectors/README.md describes both. The lists written by hand are run with any FILE, or with none.
 """
 import hashlib, itertools, json, pathlib, sys
 
 sys.path.insert(0, str(pathlib.Path(__file__).resolve().parent))
 sys.path.insert(0, str(pathlib.Path(__file__).resolve().parent / 'model'))
-import calls, layout, lists, replay, script
+import calls, layout, lists, replay, script, turns
 from calls import ALL, fail
 from engine import Engine
 
@@ -54,11 +55,21 @@ def torn(engine, desk, call, n, how):
     return {'old': stores[0], 'new': stores[1], 'junk': calls.with_block(bytes(stores[0]), place, WRONG)}[how]
 
 
+def alone(engine, desk, call):
+    """Makes a call of a list by itself, between two scripts."""
+    name, seat, *args = call
+    copies = replay.cut(desk.copies)
+    said = engine.call(name, desk.store, copies[seat], *args, turn=desk.turn)
+    desk.copies[:] = b''.join(copies.values())
+    return said
+
+
 def by_script(engine, what, blocks, some, answers):
-    """As one script; a call that takes more bytes than a record holds is made by itself, between two scripts, and there the power can fail or the store be found
-    with a tail."""
+    """As one script; what a script doesn't have is made by itself, between two scripts: a call on the turn record, a commit through it, and a call that takes more
+    bytes than a script's record holds. There the power can fail, too, or the store be found with a tail."""
     desk = replay.Desk.fresh(engine, blocks)
-    short = lambda pair: pair[0][0] not in ('found', 'power') and (pair[0][0] not in ('add', 'edit') or len(pair[0][-1]) <= script.MOST)
+    desk.turn = list(turns.FREE)
+    short = lambda pair: pair[0][0] in script.KINDS and (pair[0][0] not in ('add', 'edit') or len(pair[0][-1]) <= script.MOST)
     for encodable, pairs in itertools.groupby(zip(some, answers), short):
         part, said = zip(*pairs)
         if encodable:
@@ -69,15 +80,15 @@ def by_script(engine, what, blocks, some, answers):
                 desk.leave(c[1])
             elif c[0] == 'power':
                 desk.store[:] = torn(engine, desk, *c[2:])
-            elif engine.call(c[0], desk.store, replay.cut(desk.copies)[c[1]], *c[2:]) != a or a[0] != 'no':
-                fail(f'{what}: {c} is not {a}')
+            elif alone(engine, desk, c) != a:
+                fail(f'{what}, between scripts: {c} is not {a}')
     return desk
 
 
-def ends(what, end, wanted, store, copies):
-    """What the buffers hold at the end of a list."""
+def ends(what, end, wanted, store, copies, turn):
+    """What the buffers and the record hold at the end of a list."""
     history, used, tail = layout.history_of(store)
-    if (used, tail, history, {k: layout.entries_of(c) for k, c in copies.items()}) != wanted:
+    if (used, tail, history, {k: layout.entries_of(c) for k, c in copies.items()}, tuple(turn)) != wanted:
         fail(f'{what}: another end')
     digest = lambda buffer: hashlib.sha256(buffer).hexdigest()
     if {'store': None if tail else digest(store), 'copies': [digest(c) for c in copies.values()]} != end['sha256']:
@@ -89,11 +100,10 @@ def from_lists(engine, path):
         what = f'{path}, list {number}'
         blocks, some, answers, *wanted = lists.from_json(l)
         desk, scripted = (run(engine, what, blocks, some, answers) for run in (by_calls, by_script))
-        model = desk.model
-        if [model.used, model.tail, model.history, model.seats] != wanted:
+        if lists.stands(desk.model) != tuple(wanted):
             fail(f'{what}: another end of the model')
-        ends(what, l['end'], tuple(wanted), desk.store, desk.copies)
-        ends(f'{what} as a script', l['end'], tuple(wanted), scripted.store, replay.cut(scripted.copies))
+        ends(what, l['end'], tuple(wanted), desk.store, desk.copies, desk.turn)
+        ends(f'{what} as scripts', l['end'], tuple(wanted), scripted.store, replay.cut(scripted.copies), scripted.turn)
 
 
 # ---- cases
@@ -106,13 +116,15 @@ def lent(buffer):
     return out
 
 
-def answered(engine, what, name, args, store, copy):
+def answered(engine, what, name, args, store, copy, turn):
     """The engine's answer in the words of a case. The model is held to the engine but where it has no such call, at create."""
     if name == 'create_store':
         return engine.create_store(store)
     if name == 'create_copy':
         return engine.create_copy(copy, *args)
-    answer = calls.on_buffers(engine, what, name, args, store, copy)
+    if name in turns.CALLS:
+        return calls.on_record(engine, what, name, args, turn)
+    answer = calls.on_buffers(engine, what, name, args, store, copy, turn)
     if name in ('read', 'show'):
         return engine.part(name, store, copy, *args)
     if answer[0] == 'log':
@@ -124,17 +136,17 @@ def answered(engine, what, name, args, store, copy):
 def from_cases(engine, path):
     for number, case in enumerate(read(path)):
         what = f'{path}, case {number} ({case["note"]}), {case["call"]}'
-        store, copy = lent(case['store']), lent(case['copy'])
-        after = [lent(case[f'{name}_after'] or case[name]) for name in ('store', 'copy')]
+        store, copy, turn = lent(case['store']), lent(case['copy']), case['second'] and list(case['second'])
+        after = [*(lent(case[f'{name}_after'] or case[name]) for name in ('store', 'copy')), case['second_after'] or case['second']]
         args = [bytes.fromhex(a) if isinstance(a, str) else a for a in case['args']]
-        got = answered(engine, what, case['call'], args, store, copy)
+        got = answered(engine, what, case['call'], args, store, copy, turn or turns.FREE)
         if list(got) != case['answer']:
             fail(f'{what}: {got}, not {case["answer"]}')
-        if [store, copy] != after:
-            fail(f'{what} leaves other buffers')
+        if [store, copy, turn] != after:
+            fail(f'{what} leaves other buffers or another record')
 
 
-# ---- W2, W3, W5 and W6 by hand
+# ---- W2, W3, W5, W6 and W7 by hand
 
 START = [(('add', 1, 4, b'A'), 'done'), (('add', 1, 5, b'A'), 'done'), (('add', 1, 6, b'A'), 'done'), (('commit', 1, 7, ALL), 'revision 1'),
          (('update', 2, ALL, 1), 'done')]
@@ -149,6 +161,24 @@ def found(*tail):
 def cut(call, n, how):
     """The power fails while the call writes its block number n, which is then old, new or junk."""
     return ('power', 1, call, n, how), 'cut'
+
+
+def ask(seat, holder):
+    """The seat asks, and this one holds the turn then."""
+    return ('ask', 1, seat), f'holder {holder}'
+
+
+def give(seat, holder):
+    return ('give', 1, seat), f'holder {holder}'
+
+
+def take(holder):
+    return ('take', 1), f'holder {holder}'
+
+
+def through(seat, said, mask=ALL):
+    """A commit through the turn record."""
+    return ('turn_commit', seat, 7, mask), said
 
 
 TWO = [(('add', 1, 5, b'A'), 'done'), (('add', 1, 9, b'B'), 'done')]  # a commit of two content blocks and the commit block
@@ -387,6 +417,47 @@ BY_HAND = {
         cut(('clear', 1), 0, 'new'), (('clear', 1), 'done'), (('commit', 1, 7, ALL), 'revision 1'), (('edit', 1, 9, b'C'), 'done'),
         cut(('commit', 1, 8, ALL), 1, 'junk'), cut(('clear', 1), 0, 'new'), cut(('clear', 1), 0, 'junk'), (('read', 1, 1, 9), ('bytes', b'B', 1)),
         (('clear_cut', 1, 1), 'done'), (('commit_cut', 1, 8, ALL, 2), 'revision 2'), (('read', 1, 2, 9), ('bytes', b'C', 2))],
+    # W7
+    'a line of four': [
+        take(0), give(1, 0), give(3, 0), ask(3, 3), ask(3, 3), give(1, 3), take(0), ask(1, 1), ask(2, 1), ask(3, 1), ask(4, 1), ask(1, 1), ask(2, 1), ask(4, 1),
+        give(2, 1), give(4, 1), give(1, 2), give(1, 2), take(3), ask(1, 3), give(3, 4), give(3, 4), ask(3, 4), ask(2, 4), take(1), give(1, 3), give(3, 2), ask(3, 2),
+        give(2, 3), give(3, 0), give(3, 0), take(0), ask(4, 4), give(4, 0)],
+    'no later than the third': [
+        ask(2, 2), ask(4, 2), ask(1, 2), ask(3, 2), give(3, 2), give(1, 2), take(4), ask(2, 4), ask(3, 4), give(2, 4), give(4, 1), ask(4, 1), ask(3, 1), take(3),
+        give(3, 2), take(4), take(0), ask(1, 1), ask(3, 1), ask(2, 1), ask(4, 1), take(3), ask(1, 3), take(2), ask(3, 2), take(4), ask(2, 4), take(1), give(1, 3),
+        give(3, 2), give(2, 0)],
+    'seats that are none': [
+        *((c, 'no 7') for seat in (0, 5, 255, 256, 257, 65537, 2147483649, 4294967295) for c in (('ask', 1, seat), ('give', 1, seat))), take(0), ask(1, 1), ask(2, 1),
+        *((c, 'no 7') for seat in (0, 5, 257, 258, 65537, 4294967295) for c in (('ask', 1, seat), ('give', 1, seat))), ask(4, 1), take(2), take(4), take(0)],
+    'commits by the holder and by others': START + [
+        (('edit', 1, 5, b'B'), 'done'), (('edit', 2, 5, b'C'), 'done'), through(1, 'no 15'), through(2, 'no 15'), ask(2, 2), through(1, 'no 15'), ask(1, 2),
+        through(1, 'no 15'), (('status', 1, 5), 'status 2 1'), (('read', 1, 2, 5), 'no 7'), through(2, 'revision 2'), (('read', 1, 2, 5), ('bytes', b'C', 2)),
+        (('log', 1, 2, 5), ('log', 2, 7, 1, (2, None))), (('status', 2, 5), 'status 1 2'), through(1, 'no 15'), through(2, 'no 10'), ask(2, 2), give(2, 1),
+        through(2, 'no 15'), through(1, 'no 11'), (('update', 1, ALL, 2), 'no 12'), (('revert', 1, 1 << 5), 'done'), (('update', 1, ALL, 2), 'done'),
+        (('edit', 1, 5, b'D'), 'done'), (('edit', 1, 6, b'D'), 'done'), through(1, 'revision 3', 1 << 6), (('status', 1, 5), 'status 2 2'), through(1, 'revision 4'),
+        (('log', 1, 4, 5), ('log', 1, 7, 1, (2, None))), give(1, 0), (('edit', 1, 5, b'E'), 'done'), through(1, 'no 15'), ask(3, 3), (('delete', 3, 5), 'no 8'),
+        (('update', 3, ALL, 4), 'done'), (('delete', 3, 5), 'done'), (('copy', 3, 4, 9), 'done'), through(3, 'revision 5'), (('read', 1, 5, 5), 'no 8'),
+        (('log', 1, 5, 9), ('log', 3, 7, 2, (4, (4, 4)))), take(0), through(3, 'no 15')],
+    'the commit without the record': START + [
+        ask(1, 1), (('edit', 1, 5, b'B'), 'done'), (('edit', 2, 6, b'C'), 'done'), (('commit', 2, 8, ALL), 'revision 2'), through(2, 'no 15'), give(2, 1),
+        through(1, 'revision 3'), (('add', 4, 9, b'D'), 'done'), (('commit_cut', 4, 9, ALL, 33), 'revision 4'), take(0), (('edit', 1, 5, b'E'), 'done'),
+        (('commit', 1, 10, ALL), 'revision 5'), take(0), (('read', 1, 5, 6), ('bytes', b'C', 2)), (('read', 1, 5, 9), ('bytes', b'D', 4))],
+    '7, then 15, then the refusals of a commit': START + [
+        through(1, 'no 7', 0), through(1, 'no 15'), ask(1, 1), through(1, 'no 7', 0), through(2, 'no 7', 0), through(2, 'no 15'), through(1, 'no 10'),
+        through(2, 'no 15', 1), (('edit', 1, 5, b'B'), 'done'), (('edit', 2, 5, b'C'), 'done'), through(1, 'no 10', 1 << 6), through(1, 'revision 2', 1 << 5),
+        through(2, 'no 15'), through(2, 'no 7', 0), ask(2, 1), through(2, 'no 15'), give(1, 2), through(2, 'no 7', 0), through(2, 'no 11'),
+        through(2, 'no 10', 1 << 6), *((('add', 4, i, b'X'), 'done') for i in range(8, 32)), (('commit', 4, 9, ALL), 'revision 3'), (('add', 3, 7, b'X'), 'done'),
+        through(3, 'no 15'), ask(3, 2), through(3, 'no 15'), take(3), through(3, 'no 13'), through(3, 'no 7', 0), (('update', 3, 1 << 4, 3), 'done'),
+        (('delete', 3, 4), 'done'), through(3, 'no 13'), through(2, 'no 15'), take(0), through(3, 'no 15')],
+    'beside a tail': START + [
+        (('edit', 1, 5, b'B'), 'done'), (('commit_cut', 1, 8, ALL, 1), 'stopped'), through(1, 'no 14'), through(1, 'no 14', 0), ask(1, 1), through(1, 'no 14'),
+        through(1, 'no 14', 0), through(2, 'no 14'), ask(2, 1), (('clear_cut', 1, 0), 'stopped'), through(1, 'no 14'), (('clear', 1), 'done'),
+        through(1, 'revision 2'), give(1, 2), found(WRONG), (('edit', 2, 6, b'C'), 'done'), through(2, 'no 14'), take(0), through(2, 'no 14'), ask(2, 2),
+        (('clear', 3), 'done'), through(2, 'revision 3'), (('read', 1, 3, 6), ('bytes', b'C', 3)), (('read', 1, 3, 5), ('bytes', b'B', 2))],
+    'the power fails while a seat holds the turn': TWO + [
+        ask(1, 1), ask(2, 1), cut(('commit', 1, 7, ALL), 1, 'junk'), through(1, 'no 14'), (('clear', 1), 'done'), cut(('commit', 1, 7, ALL), 2, 'new'),
+        through(1, 'no 11'), ask(1, 1), (('update', 1, ALL, 1), 'done'), through(1, 'no 10'), give(1, 2), (('add', 2, 5, b'A'), 'done'), through(2, 'no 11'),
+        (('update', 2, ALL, 1), 'done'), (('edit', 2, 5, b'C'), 'done'), through(2, 'revision 2'), give(2, 0)],
 }
 LONG = {  # on a larger store
     'past revision 255': START + [
@@ -409,7 +480,10 @@ def from_hand(engine):
         blocks = 600 if what in LONG else 32
         some, answers = zip(*((c, in_words(said) if isinstance(said, str) else said) for c, said in rows))
         desk = by_calls(engine, what, blocks, some, answers)
-        by_script(engine, what, blocks, some, answers).held_to(f'{what} as a script', desk.model, bytes(desk.store))
+        scripted = by_script(engine, what, blocks, some, answers)
+        scripted.held_to(f'{what} as scripts', desk.model, bytes(desk.store))
+        if scripted.turn != desk.turn:
+            fail(f'{what} as scripts leaves another record')
 
 
 def main():

@@ -5,7 +5,7 @@
 mod ffi;
 
 use crate::commit::Cut;
-pub use ffi::{Answer, LogEntry, Place, Standing};
+pub use ffi::{Answer, LogEntry, Place, Standing, Turn};
 
 mod c {
     pub use super::ffi::*;
@@ -95,6 +95,32 @@ fn usual(answer: Answer) -> Cut {
         0 => Ok(Some(answer.value)),
         refusal => Err(refusal),
     }
+}
+
+#[cfg(not(feature = "before-w7"))]
+pub fn commit_in_turn(store: &mut [u8], copy: &mut [u8], turn: Turn, stamp: u32, mask: u32) -> Answer {
+    unsafe { c::sheets_commit_in_turn(store.as_mut_ptr(), store.len(), copy.as_mut_ptr(), copy.len(), turn, stamp, mask) }
+}
+
+/// The usual commit, whatever the record is.
+#[cfg(feature = "before-w7")]
+pub fn commit_in_turn(store: &mut [u8], copy: &mut [u8], _turn: Turn, stamp: u32, mask: u32) -> Answer {
+    commit(store, copy, stamp, mask)
+}
+
+#[cfg(not(feature = "before-w7"))]
+pub fn turn_ask(turn: &mut Turn, seat: u32) -> Answer {
+    unsafe { c::sheets_turn_ask(turn, seat) }
+}
+
+#[cfg(not(feature = "before-w7"))]
+pub fn turn_give(turn: &mut Turn, seat: u32) -> Answer {
+    unsafe { c::sheets_turn_give(turn, seat) }
+}
+
+#[cfg(not(feature = "before-w7"))]
+pub fn turn_take(turn: &mut Turn) -> Answer {
+    unsafe { c::sheets_turn_take(turn) }
 }
 
 pub fn update(store: &[u8], copy: &mut [u8], mask: u32, revision: u32) -> Answer {

@@ -11,6 +11,8 @@ mod sqlite;
 mod store;
 mod sums;
 mod svn;
+#[cfg(not(feature = "before-w7"))]
+mod turn;
 
 use script::{after, fresh_copies, script, ADD, COPY, COPY_SHEET, DELETE, EDIT, MOVE, UPDATE};
 use std::hint::black_box;
@@ -252,6 +254,9 @@ fn calls() {
     } else {
         cuts_agree();
     }
+    if cfg!(feature = "before-w7") {
+        println!("a library from before W7: its commit in turn is the usual one");
+    }
     for blocks in [32, 1000, 4096] {
         let store = make::ordinary(blocks);
         let opened = store::open(&store).expect("the maker lays out a history");
@@ -265,7 +270,8 @@ fn calls() {
         assert_eq!(engine::edit(&store, &mut edited, sheet, b"edited").refusal, 0);
         let bytes = [7; 480];
         let (junk, tail) = ([7; store::BLOCK], used * store::BLOCK..(used + 1) * store::BLOCK);
-        let calls: [Call; 22] = [
+        let turn = engine::Turn::from_numbers([1, 2, 3, 4]);
+        let calls: [Call; 23] = [
             ("acceptance (read 0 0)", &copy, &|s, _| (engine::read(s, 0, 0).refusal != 8) as u32),
             ("read", &copy, &|s, _| engine::read(s, last, sheet).refusal),
             ("log", &copy, &|s, _| engine::log(s, last, sheet).refusal),
@@ -277,6 +283,7 @@ fn calls() {
             ("copy", &copy, &|s, w| engine::copy_sheet(s, w, sheet, 31).refusal),
             ("move", &copy, &|s, w| engine::move_sheet(s, w, sheet, 31).refusal),
             ("commit of one edit", &edited, &|s, w| engine::commit(s, w, 7, all).refusal),
+            ("commit in turn of one edit", &edited, &|s, w| engine::commit_in_turn(s, w, turn, 7, all).refusal),
             ("update of all sheets from 0 to the last", &fresh, &|s, w| engine::update(s, w, all, last).refusal),
             ("update of all sheets from the last to 1", &copy, &|s, w| engine::update(s, w, all, 1).refusal),
             ("revert of one edit", &edited, &|s, w| engine::revert(s, w, 1 << sheet).refusal),
@@ -307,6 +314,7 @@ fn calls() {
             println!("  {what:<44} {t:>10.0} ns   {:>6.2} of acceptance", t / times[0]);
         }
         let of = |what: &str| times[calls.iter().position(|c| c.0 == what).expect("a line")];
+        println!("  commit in turn / commit: {:.3}", of("commit in turn of one edit") / of("commit of one edit"));
         let (commit, clear) = ("commit cut of one edit, n enough", "clear cut of a tail of one block, n enough");
         println!("  engine / Rust version: commit cut {:.2}, clear cut {:.2}", of(commit) / of("Rust version: commit cut"), of(clear) / of("Rust version: clear cut"));
         let (many, i) = (200, sheet as usize);
@@ -342,6 +350,10 @@ fn main() {
     }
     if wanted("calls") {
         calls();
+    }
+    #[cfg(not(feature = "before-w7"))]
+    if wanted("turns") {
+        turn::calls();
     }
     if wanted("lists") {
         lists::sizes();

@@ -1,5 +1,5 @@
 /* Two seats at one store: add, commit, update, read back with the revision beside each sheet, two refusals, and the same edit twice; then two calls as one script,
- * and a commit that is cut.
+ * a commit that is cut, and commits in turn.
  * Exits 1 at the first answer that is not as expected.
  *
  *     rt staticlib sheetstore
@@ -75,6 +75,10 @@ static sheets_answer commit(uint8_t *copy, uint32_t stamp) {
     return sheets_commit(store, sizeof store, copy, SHEETS_COPY_LEN, stamp, ALL_SHEETS);
 }
 
+static sheets_answer commit_in_turn(uint8_t *copy, sheets_turn turn, uint32_t stamp) {
+    return sheets_commit_in_turn(store, sizeof store, copy, SHEETS_COPY_LEN, turn, stamp, ALL_SHEETS);
+}
+
 static sheets_answer update(uint8_t *copy, uint32_t revision) {
     return sheets_update(store, sizeof store, copy, SHEETS_COPY_LEN, ALL_SHEETS, revision);
 }
@@ -128,6 +132,19 @@ static void cut(void) {
     expect_text("sheet 7 at revision 4", store, sheets_read(store, sizeof store, 4, 7), "flow 12 l/h", 4);
 }
 
+/* Both seats ask for the turn; seat 2 waits until seat 1 gives it back. */
+static void take_turns(void) {
+    sheets_turn turn = {0, 0, 0, 0}; /* free */
+    expect("seat 1 asks, the holder is", sheets_turn_ask(&turn, 1), 0, 1);
+    expect("seat 2 asks, the holder is", sheets_turn_ask(&turn, 2), 0, 1);
+    expect("seat 2 adds sheet 8", add(office, 8, "chlorine 0.6 mg/l"), 0, 0);
+    expect("seat 2 commits in turn, it does not hold it", commit_in_turn(office, turn, 600), SHEETS_REFUSED_NOT_HOLDING, 0);
+    expect("seat 1 gives back, the holder is", sheets_turn_give(&turn, 1), 0, 2);
+    expect("seat 2 commits in turn", commit_in_turn(office, turn, 600), 0, 5);
+    expect_text("sheet 8 at revision 5", store, sheets_read(store, sizeof store, 5, 8), "chlorine 0.6 mg/l", 5);
+    expect("the planner takes the turn back, nobody waits", sheets_turn_take(&turn), 0, 0);
+}
+
 int main(void) {
     expect("create the store", sheets_create_store(store, sizeof store), 0, 0);
     expect("create seat 1's copy", sheets_create_copy(pump_room, sizeof pump_room, 1), 0, 0);
@@ -161,5 +178,6 @@ int main(void) {
     printf("log of revision 2: seat %u, stamp %u, action %u\n", entry.seat, entry.stamp, entry.action);
     replay();
     cut();
+    take_turns();
     return 0;
 }

@@ -119,8 +119,8 @@ def copy_refusal(copy, trees):
 
 
 def refusal(store, copy=None, commits=False):
-    """The first of 1 to 6 that holds for a call that takes the store, or the store and the copy, and for a commit, cut or not, 14, "checked right after 3"; 0 for
-    none."""
+    """The first of 1 to 6 that holds for a call that takes the store, or the store and the copy, and for a commit, cut or not, through the turn record or not, 14,
+    "checked right after 3"; 0 for none."""
     number, trees, tail = store_refusal(store)
     if not number and commits and tail:
         return 14

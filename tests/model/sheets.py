@@ -1,13 +1,14 @@
-"""A model of document 01, with the requests of document 02 up to W6, in plain data, made apart from the engine: no buffers, no blocks, nothing shared with the
+"""A model of document 01, with the requests of document 02 up to W7, in plain data, made apart from the engine: no buffers, no blocks, nothing shared with the
 crates. W1 moves nothing here: it is the order of the blocks, in layout.py. W2 moves update. W3 moves what read, show and status answer. W4 moves no answer. W5
 adds the number of the tail's blocks, which commit minds and clear makes 0. W6 adds the cut calls, which make a tail and leave one, and what a power cut leaves,
-which is no call.
+which is no call. W7 adds the commit through the turn record; the record and its own calls are in turns.py, and stand beside the rest here.
 
 A tree is a dict from sheet to bytes. A change is (action, bytes, source); a commit is (seat, stamp, {sheet: change}).
 An entry is ('empty',), ('normal', base, bytes), ('added', bytes), ('deleted', base) or ('copied', (sheet, revision), bytes).
 An answer is ('no', number), ('done',), ('revision', R), ('stopped',), ('bytes', bytes, W3's number or None for a seat's own bytes),
-('status', 0 to 8, W3's number) or ('log', seat, stamp, m, change or None), where the change is (action, source or None).
+('status', 0 to 8, W3's number), ('log', seat, stamp, m, change or None), where the change is (action, source or None), or ('holder', seat or 0).
 """
+import turns
 
 ADD, CHANGE, DELETE, COPY = 1, 2, 3, 4
 EMPTY = ('empty',)
@@ -20,6 +21,7 @@ class Machine:
         self.tail = 0
         self.history = []
         self.seats = {seat: [EMPTY] * 32 for seat in (1, 2, 3, 4)}
+        self.turn = turns.FREE
 
     # ---- trees
 
@@ -149,13 +151,15 @@ class Machine:
             self.do_delete(entries, seat, sheet)
         return answer
 
-    def asked(self, seat, stamp, mask):
-        """What a commit is to write: its refusal or 0, the commit, and the number of its blocks."""
+    def asked(self, seat, stamp, mask, in_turn=False):
+        """What a commit, or one through the turn record, is to write: its refusal or 0, the commit, and the number of its blocks."""
         entries = self.seats[seat]
         if self.tail:  # W5: "14, commit on a store that has a tail, checked right after 3"
             return 14, None, 0
-        if mask == 0:
+        if mask == 0 or in_turn and not turns.in_form(self.turn):
             return 7, None, 0
+        if in_turn and self.turn[0] != seat:  # W7: "15, a commit through the record by a seat that doesn't hold the turn, checked after 7"
+            return 15, None, 0
         chosen = [i for i in range(32) if mask >> i & 1 and self.pending(i, entries[i])]
         if not chosen:
             return 10, None, 0
@@ -167,8 +171,8 @@ class Machine:
             return 13, None, 0
         return 0, (seat, stamp, changes), blocks
 
-    def do_commit(self, entries, seat, stamp, mask):
-        number, commit, blocks = self.asked(seat, stamp, mask)
+    def do_commit(self, entries, seat, stamp, mask, in_turn=False):
+        number, commit, blocks = self.asked(seat, stamp, mask, in_turn)
         if number:
             return ('no', number)
         self.used += blocks
@@ -185,6 +189,10 @@ class Machine:
             return self.do_commit(entries, seat, stamp, mask)
         self.tail = n
         return ('stopped',)
+
+    def do_turn_commit(self, entries, seat, stamp, mask):
+        """W7: the working copy's seat calls; the record stays."""
+        return self.do_commit(entries, seat, stamp, mask, True)
 
     def do_update(self, entries, seat, mask, revision):
         if mask == 0 or revision > self.last():
@@ -215,6 +223,19 @@ class Machine:
             return self.do_clear(entries, seat)
         self.tail -= n
         return ('stopped',)
+
+    def do_ask(self, entries, seat, calling):
+        """W7: a call on the record alone. Whose working copy it is doesn't matter."""
+        answer, self.turn = turns.called(self.turn, 'ask', calling)
+        return answer
+
+    def do_give(self, entries, seat, calling):
+        answer, self.turn = turns.called(self.turn, 'give', calling)
+        return answer
+
+    def do_take(self, entries, seat):
+        answer, self.turn = turns.called(self.turn, 'take')
+        return answer
 
     def do_read(self, entries, seat, revision, sheet):
         if sheet > 31 or revision > self.last():

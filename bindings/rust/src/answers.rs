@@ -4,7 +4,7 @@ use crate::ffi;
 use std::error::Error;
 use std::fmt;
 
-/// Why a call was refused: the lines of document 01's "When the engine says no", and 14 of document 02, with their numbers.
+/// Why a call was refused: the lines of document 01's "When the engine says no", and 14 and 15 of document 02, with their numbers.
 #[derive(Clone, Copy, Debug, PartialEq, Eq, Hash)]
 #[repr(u32)]
 pub enum Refusal {
@@ -20,7 +20,7 @@ pub enum Refusal {
     CopyLayout = 5,
     /// The working copy doesn't fit the store.
     Unfit = 6,
-    /// A seat, sheet number, length, mask or revision is out of range.
+    /// A seat, sheet number, length, mask or revision is out of range, or a turn record is not in form.
     Range = 7,
     /// Nothing is there.
     Missing = 8,
@@ -36,9 +36,11 @@ pub enum Refusal {
     NoRoom = 13,
     /// The store to commit to has a tail. This is checked right after [`StoreLayout`](Refusal::StoreLayout).
     Tail = 14,
+    /// The seat that commits in turn doesn't hold the turn. This is checked right after [`Range`](Refusal::Range).
+    NotHolding = 15,
 }
 
-const REFUSALS: [Refusal; 14] = [
+const REFUSALS: [Refusal; 15] = [
     Refusal::StoreLength,
     Refusal::StoreCheck,
     Refusal::StoreLayout,
@@ -53,10 +55,11 @@ const REFUSALS: [Refusal; 14] = [
     Refusal::Conflict,
     Refusal::NoRoom,
     Refusal::Tail,
+    Refusal::NotHolding,
 ];
 
 impl Refusal {
-    /// The documents' number, 1 to 14.
+    /// The documents' number, 1 to 15.
     pub fn number(self) -> u32 {
         self as u32
     }
@@ -79,6 +82,7 @@ impl fmt::Display for Refusal {
             Refusal::Conflict => "a chosen entry is a conflict",
             Refusal::NoRoom => "the store has no room",
             Refusal::Tail => "the store has a tail",
+            Refusal::NotHolding => "the seat does not hold the turn",
         };
         write!(f, "refusal {}: {why}", self.number())
     }

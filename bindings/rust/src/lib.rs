@@ -2,8 +2,8 @@
 //!
 //! A *store* is a buffer of 2 to 4,096 blocks of [`BLOCK`] bytes that holds the revisions of one pool. A *working copy* is a buffer of
 //! [`COPY_LEN`] bytes that belongs to a seat, 1 to 4. Both are lent by the caller. Every call checks all that it is handed, finishes on every
-//! input, and either does its work or answers a [`Refusal`] and leaves every buffer unchanged; only [`commit_cut`] and [`clear_cut`] may stop within their
-//! work, and answer that.
+//! input, and either does its work or answers a [`Refusal`] and leaves every buffer and turn record unchanged; only [`commit_cut`] and [`clear_cut`] may stop
+//! within their work, and answer that.
 //!
 //! ```
 //! use sheetstore::{self as sheets, Refusal, ALL, BLOCK, COPY_LEN};
@@ -40,14 +40,16 @@
 //! println!("{:?}, revision {}", sheet.bytes, sheet.revision);
 //! ```
 //!
-//! A list of calls by all four seats is made at once by [`replay`].
+//! Seats that commit often take turns by a record, [`Turn`], and [`commit_in_turn`]. A list of calls by all four seats is made at once by [`replay`].
 #![deny(missing_docs)]
 
 mod answers;
 mod ffi;
 mod script;
+mod turn;
 
 pub use answers::{Action, Cut, LogEntry, Refusal, Sheet, Shown, Standing, Status};
+pub use ffi::Turn;
 pub use script::{Answers, Call, Reply, Script, MAX_BYTES, RECORD_LEN};
 
 /// Bytes of a block.
@@ -113,8 +115,8 @@ pub fn commit(store: &mut [u8], copy: &mut [u8], stamp: u32, mask: u32) -> Resul
 }
 
 /// Clears the tail of a store. Where contact is lost within a commit, the store ends in a tail: up to 32 content blocks of the next revision and at most one
-/// block with a wrong check. Every call but [`commit`] works then, as if the tail were zero blocks. Clear writes zero blocks there, from the highest block
-/// down; without a tail it changes nothing.
+/// block with a wrong check. Every call but [`commit`], [`commit_cut`] and [`commit_in_turn`] works then, as if the tail were zero blocks. Clear writes zero
+/// blocks there, from the highest block down; without a tail it changes nothing.
 ///
 /// Wherever the power fails within a commit or a clear, and the blocks written before are new, the block being written is old, new or has a wrong check, and
 /// those due later are old, the store found is accepted. Its history is the one before or the one with the whole commit, the latter exactly if the commit
@@ -181,6 +183,38 @@ pub fn commit_cut(store: &mut [u8], copy: &mut [u8], stamp: u32, mask: u32, n: u
 /// [`Cut::Done`], and the store has no tail. Without a tail there is no write, so that is the answer for every n, and the store stays as it is.
 pub fn clear_cut(store: &mut [u8], n: u32) -> Result<Cut<()>, Refusal> {
     answers::cut(unsafe { ffi::sheets_clear_cut(store.as_mut_ptr(), store.len(), n) }, |_| ())
+}
+
+/// A [`commit`] through a turn record. It is refused as [`commit`] is, but for two lines: a record that is not in form is refused with [`Refusal::Range`], as
+/// mask 0 is, and right after that a seat that does not hold the turn with [`Refusal::NotHolding`]. The seat is the working copy's. Not refused, it is
+/// [`commit`].
+///
+/// The record stays as it is: giving back is a call of its own. [`commit`] itself asks for no turn.
+///
+/// ```
+/// use sheetstore::{self as sheets, Refusal, Turn, ALL, BLOCK, COPY_LEN};
+///
+/// let (mut store, mut one, mut two) = (vec![0; 32 * BLOCK], vec![0; COPY_LEN], vec![0; COPY_LEN]);
+/// sheets::create_store(&mut store)?;
+/// sheets::create_copy(&mut one, 1)?;
+/// sheets::create_copy(&mut two, 2)?;
+/// sheets::add(&store, &mut one, 5, b"stop after 30 s")?;
+/// sheets::add(&store, &mut two, 6, b"pH 7.2")?;
+///
+/// let mut turn = Turn::free();
+/// assert_eq!(turn.ask(1), Ok(Some(1)));
+/// assert_eq!(turn.ask(2), Ok(Some(1))); // seat 2 waits
+/// assert_eq!(sheets::commit_in_turn(&mut store, &mut two, turn, 7, ALL), Err(Refusal::NotHolding));
+/// assert_eq!(sheets::commit_in_turn(&mut store, &mut one, turn, 7, ALL), Ok(1));
+///
+/// assert_eq!(turn.give(1), Ok(Some(2)));
+/// assert_eq!(sheets::commit_in_turn(&mut store, &mut two, turn, 8, ALL), Ok(2));
+/// assert_eq!(turn.take(), Ok(None)); // the planner takes the turn back from seat 2, and nobody waits
+/// assert_eq!(turn, Turn::free());
+/// # Ok::<(), Refusal>(())
+/// ```
+pub fn commit_in_turn(store: &mut [u8], copy: &mut [u8], turn: Turn, stamp: u32, mask: u32) -> Result<u32, Refusal> {
+    value(unsafe { ffi::sheets_commit_in_turn(store.as_mut_ptr(), store.len(), copy.as_mut_ptr(), copy.len(), turn, stamp, mask) })
 }
 
 /// The entries that the mask chooses come to a revision, unless one of them is a conflict. One whose own bytes are the ones that its sheet has there

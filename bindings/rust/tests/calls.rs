@@ -1,26 +1,9 @@
 //! Every call, every refusal's number, and that read and show hand back parts of the lent buffers.
 
-use sheetstore::{self as sheets, Action, Cut, LogEntry, Refusal, Sheet, Shown, Standing, Status, ALL, BLOCK, COPY_LEN};
+mod common;
 
-fn store_of(blocks: usize) -> Vec<u8> {
-    let mut store = vec![0x5a; blocks * BLOCK];
-    sheets::create_store(&mut store).unwrap();
-    store
-}
-
-fn copy_of(seat: u32) -> Vec<u8> {
-    let mut copy = vec![0x5a; COPY_LEN];
-    sheets::create_copy(&mut copy, seat).unwrap();
-    copy
-}
-
-/// A store with byte 65 as sheet 5 of revision 1, and the working copy of seat 2, which committed it with stamp 7.
-fn case_input(blocks: usize) -> (Vec<u8>, Vec<u8>) {
-    let (mut store, mut copy) = (store_of(blocks), copy_of(2));
-    sheets::add(&store, &mut copy, 5, b"A").unwrap();
-    assert_eq!(sheets::commit(&mut store, &mut copy, 7, ALL), Ok(1));
-    (store, copy)
-}
+use common::{case_input, copy_of, refused_commits, store_of};
+use sheetstore::{self as sheets, Action, Cut, LogEntry, Refusal, Sheet, Shown, Standing, Status, Turn, ALL, BLOCK};
 
 /// Writes a block's check anew.
 fn seal(block: &mut [u8]) {
@@ -273,10 +256,7 @@ fn a_cut_clear_without_a_tail_is_done() {
 
 #[test]
 fn a_cut_call_is_refused_as_the_usual_one() {
-    let (store, copy) = case_input(4);
-    let refused = |number: u32, mask: u32, change: &dyn Fn(&mut Vec<u8>, &mut Vec<u8>)| {
-        let (mut s, mut c) = (store.clone(), copy.clone());
-        change(&mut s, &mut c);
+    refused_commits(|number, mask, mut s, mut c| {
         let before = (s.clone(), c.clone());
         assert_eq!(sheets::commit(&mut s, &mut c, 0, mask).unwrap_err().number(), number);
         for n in [0, 1, 2, u32::MAX] {
@@ -287,24 +267,7 @@ fn a_cut_call_is_refused_as_the_usual_one() {
             }
         }
         assert!(before == (s, c), "refusal {number} changed a buffer");
-    };
-    refused(1, ALL, &|s, _| s.truncate(BLOCK));
-    refused(2, ALL, &|s, _| s[600] ^= 1);
-    refused(3, ALL, &|s, _| s.copy_within(..BLOCK, 3 * BLOCK));
-    refused(14, ALL, &|s, c| {
-        s[3 * BLOCK] = 1;
-        c.clear();
     });
-    refused(4, ALL, &|_, c| c.truncate(BLOCK));
-    refused(5, ALL, &|_, c| c[0] = 5);
-    refused(6, ALL, &|s, _| *s = store_of(4));
-    refused(7, 0, &|s, c| sheets::delete(s, c, 5).unwrap());
-    refused(10, !(1 << 5), &|s, c| sheets::delete(s, c, 5).unwrap());
-    refused(11, ALL, &|s, c| {
-        *c = copy_of(1);
-        sheets::add(s, c, 5, b"other").unwrap();
-    });
-    refused(13, ALL, &|s, c| sheets::edit(s, c, 5, b"B").unwrap());
 }
 
 /// A call on copies of a store and a working copy.
@@ -365,6 +328,7 @@ fn every_refusal_has_its_number_and_changes_nothing() {
         tailed[3 * BLOCK] = 1;
         commit(&mut tailed, c)
     });
+    refused(15, &|s, c| sheets::commit_in_turn(s, c, Turn::free(), 0, ALL).map(|_| ()));
     refused(1, &|s, _| sheets::clear(&mut s[1..]));
     refused(2, &|s, _| {
         let mut damaged = s.clone();
@@ -382,4 +346,5 @@ fn every_refusal_has_its_number_and_changes_nothing() {
 fn a_refusal_says_its_number() {
     assert_eq!(Refusal::NoRoom.to_string(), "refusal 13: the store has no room");
     assert_eq!(Refusal::Tail.to_string(), "refusal 14: the store has a tail");
+    assert_eq!(Refusal::NotHolding.to_string(), "refusal 15: the seat does not hold the turn");
 }

@@ -1,16 +1,18 @@
-// Every call of document 01, the clearing of a tail, and commit and clearing that stop after n block writes, total: each checks what it is handed in the document's order, and
-// either does its work or answers the refusal and leaves every buffer unchanged.
-// Each promise is one equation with the call's meaning in crates/model/specs/Calls.antt. `call` takes any of them as one request (specs/Request.antt).
+// Every call of document 01, the clearing of a tail, commit and clearing that stop after n block writes, and commit through the turn record, total: each checks what it is handed in
+// the document's order, and either does its work or answers the refusal and leaves every buffer unchanged.
+// Each promise is one equation with the call's meaning in crates/model/specs/Calls.antt, of the commit through the record in crates/turns/specs/InTurn.antt. `call` takes any of the
+// others as one request (specs/Request.antt).
 ghost use mathlib.Core.List.{[]};
 ghost use mathlib.Core.Path.{_≡_};
 ghost use Rattle.model.specs.Calls.{addCall, clearCall, clearCutCall, commitCall, commitCutCall, copyCall, createCopy, createStore, deleteCall, editCall, logCall, moveCall, out, partOf, readPlace, revertCall, showPlace, sizeCondition, statusCall, updateCall};
 ghost use Rattle.model.specs.Types.{actionNumber, answerOf, createdAs, numberOf, sourceRevision, sourceSheet};
+ghost use Rattle.engine.specs.MayCommit.{MayCommit};
 ghost use Rattle.engine.specs.Part.{PartAt, ShownAt};
 ghost use Rattle.engine.specs.Request.{answered, called, requested, tellsOf};
 ghost use Rattle.inner.specs.Performs.{Within, callOf};
 ghost use Rattle.inner.specs.Place.{Located};
-ghost use Rattle.store.specs.Opened.{openOf};
-ghost use Rattle.store.specs.declared.Opened.the-variants.{Open};
+ghost use Rattle.turns.specs.InTurn.{inTurnCall};
+ghost use Rattle.turns.specs.Turns.{numbersOf};
 use entries::Checked;
 use inner::Call;
 use inner::Reply;
@@ -18,8 +20,8 @@ use model::Action;
 use model::Answer;
 use model::Place;
 use model::Refusal;
-use store::Header;
 use store::Opened;
+use turns::TurnRecord;
 
 // ---- create
 
@@ -200,27 +202,18 @@ pub fn move_sheet(store: &[u8], copy: &mut [u8], from: u32, to: u32) -> Answer
 
 // ---- the store and the working copy
 
-// Commit on a store that is open, stopped after n block writes: a tail refuses it before the working copy is looked at.
-fn commit_open(
-    store: &mut [u8],
-    copy: &mut [u8],
-    h: Header,
-    stamp: u32,
-    mask: u32,
-    n: usize,
-) -> Answer
-    requires { ⌜ openOf (now store) ≡ Open h ⌝ }
-    ensures { λ r. ⌜ out (answerOf r) (now (store .exit)) (now (copy .exit)) ≡ commitCutCall (now (store .entry)) (now (copy .entry)) stamp mask n ⌝ }
+// The check before a commit, through the turn record or not: a tail refuses it before the working copy is looked at.
+fn check_to_commit<'a>(store: &'a [u8], copy: &'a [u8]) -> Checked
+    ensures { λ r. ⌜ MayCommit (now (store .entry)) (now (copy .entry)) r ⌝ }
 {
-    if tails::has(store, h.used) {
-        return Answer::Refused(Refusal::Tail);
-    }
-    let c = entries::check_copy(store, copy, h);
-    match c {
-        Checked::Refused(k) => Answer::Refused(k),
-        Checked::Ready(v) => {
-            let filed = filing::commit(store, copy, v, stamp, mask, n);
-            filed.answer
+    let opened = store::open(store);
+    match opened {
+        Opened::Refused(k) => Checked::Refused(k),
+        Opened::Open(h) => {
+            if tails::has(store, h.used) {
+                return Checked::Refused(Refusal::Tail);
+            }
+            entries::check_copy(store, copy, h)
         }
     }
 }
@@ -229,10 +222,13 @@ fn commit_open(
 pub fn commit_cut(store: &mut [u8], copy: &mut [u8], stamp: u32, mask: u32, n: u32) -> Answer
     ensures { λ r. ⌜ out (answerOf r) (now (store .exit)) (now (copy .exit)) ≡ commitCutCall (now (store .entry)) (now (copy .entry)) stamp mask n ⌝ }
 {
-    let opened = store::open(store);
-    match opened {
-        Opened::Refused(k) => Answer::Refused(k),
-        Opened::Open(h) => commit_open(store, copy, h, stamp, mask, n as usize),
+    let c = check_to_commit(store, copy);
+    match c {
+        Checked::Refused(k) => Answer::Refused(k),
+        Checked::Ready(v) => {
+            let filed = filing::commit(store, copy, v, stamp, mask, n as usize);
+            filed.answer
+        }
     }
 }
 
@@ -241,6 +237,35 @@ pub fn commit(store: &mut [u8], copy: &mut [u8], stamp: u32, mask: u32) -> Answe
     ensures { λ r. ⌜ out (answerOf r) (now (store .exit)) (now (copy .exit)) ≡ commitCall (now (store .entry)) (now (copy .entry)) stamp mask ⌝ }
 {
     commit_cut(store, copy, stamp, mask, 33)
+}
+
+// Commit through the turn record: the copy's seat must hold the turn.
+pub fn commit_in_turn(
+    store: &mut [u8],
+    copy: &mut [u8],
+    turn: TurnRecord,
+    stamp: u32,
+    mask: u32,
+) -> Answer
+    ensures { λ r. ⌜ out (answerOf r) (now (store .exit)) (now (copy .exit)) ≡ inTurnCall (now (store .entry)) (now (copy .entry)) (numbersOf turn) stamp mask ⌝ }
+{
+    let c = check_to_commit(store, copy);
+    match c {
+        Checked::Refused(k) => Answer::Refused(k),
+        Checked::Ready(v) => {
+            if mask == 0 {
+                return Answer::Refused(Refusal::Range);
+            }
+            if !turns::in_form(turn) {
+                return Answer::Refused(Refusal::Range);
+            }
+            if turn.holder != v.seat {
+                return Answer::Refused(Refusal::NotHolding);
+            }
+            let filed = filing::commit(store, copy, v, stamp, mask, 33);
+            filed.answer
+        }
+    }
 }
 
 // Update: the chosen entries come to a revision, unless one is a conflict.
@@ -349,6 +374,7 @@ pub fn number(refusal: Refusal) -> u32
         Refusal::Conflict => 12,
         Refusal::NoRoom => 13,
         Refusal::Tail => 14,
+        Refusal::NotHolding => 15,
     }
 }
 

@@ -1,7 +1,7 @@
 -- A call that takes both buffers, after `entries::check`: refused as the check says, or done as the inner function does it.
 -- Assumes nothing.
 use Prim.Native.Nat.{ℕ}
-use mathlib.Core.Bool.{Bool, cond, not, true}
+use mathlib.Core.Bool.{not, true}
 use mathlib.Core.List.{_++_, append-assoc}
 use mathlib.Core.Option.{Option, none, some}
 use mathlib.Core.Path.{_∙_, _≡_, ap, sym}
@@ -15,23 +15,20 @@ use Rattle.model.specs.Types.{answerOf, numberOf}
 use Rattle.model.specs.declared.Answer.{Answer}
 use Rattle.model.specs.declared.Refusal.{Refusal}
 use Rattle.model.specs.declared.Refusal.the-variants.{Tail}
-use Rattle.laws.proofs.Conditions.{clear, clear-first}
-use Rattle.inner.proofs.Refusing.{first-skips, first-stays}
+use Rattle.laws.proofs.Conditions.{clear, clear-mid}
+use Rattle.inner.proofs.Refusing.{first-stays, tail-first}
 use Rattle.entries.proofs.Checking.{check-ready, check-refused, fitting-accepted, inner-call}
 use Rattle.entries.specs.View.{Fitting, checkOf, innerOut}
 use Rattle.entries.specs.declared.Checked.the-variants.{Ready, Refused}
 use Rattle.entries.specs.declared.View.{View}
 use Rattle.local.proofs.Calls.{Local, local-call}
 use Rattle.local.specs.Local.{LocalOut, localOut}
-use Rattle.store.proofs.Opening.{open-refused}
-use Rattle.store.specs.Opened.{openOf}
-use Rattle.store.specs.declared.Opened.the-variants.{Refused as NotOpen}
 
 module _ (store copy : Bytes) where
   pub check-refusal : (k : Refusal) (c : Call) → Clear (tailConditions (sideIn store copy) c) → checkOf store copy ≡ Refused k → refusalOf store copy c ≡ some (numberOf k)
   unfolding refusalOf
   check-refusal k c t e =
-      first-skips (storeConditions store) (tailConditions (sideIn store copy) c) (copyConditions store copy ++ conditions (sideIn store copy) c) t
+      clear-mid (storeConditions store) (tailConditions (sideIn store copy) c) (copyConditions store copy ++ conditions (sideIn store copy) c) t
       ∙ ap firstOf (sym (append-assoc (storeConditions store) (copyConditions store copy) (conditions (sideIn store copy) c)))
       ∙ first-stays (storeConditions store ++ copyConditions store copy) (conditions (sideIn store copy) c) (numberOf k) (check-refused store copy k e)
 
@@ -42,34 +39,14 @@ module _ (store copy : Bytes) where
   pub refused-call : (k : Refusal) (c : Call) → Clear (tailConditions (sideIn store copy) c) → checkOf store copy ≡ Refused k → out (refused (numberOf k)) store copy ≡ changeCall store copy c
   refused-call k c t e = refused-by k c (check-refusal k c t e)
 
-  -- a line on the store comes first
-  store-refusal : (k : Refusal) (c : Call) → openOf store ≡ NotOpen k → refusalOf store copy c ≡ some (numberOf k)
-  unfolding refusalOf
-  store-refusal k c e =
-      first-stays (storeConditions store) (tailConditions (sideIn store copy) c ++ (copyConditions store copy ++ conditions (sideIn store copy) c)) (numberOf k) (open-refused store k e)
-
-  -- then 14
-  tail-refusal : (stamp mask n : ℕ) → firstOf (storeConditions store) ≡ none → not (eqb (tailOf store) 0) ≡ true → refusalOf store copy (CommitsCut stamp mask n) ≡ some 14
-  unfolding refusalOf
-  tail-refusal stamp mask n e t =
-      let cs = copyConditions store copy ++ conditions (sideIn store copy) (CommitsCut stamp mask n) in
-      clear-first (storeConditions store) (tailConditions (sideIn store copy) (CommitsCut stamp mask n) ++ cs) (clear (storeConditions store) e)
-      ∙ ap (λ (b : Bool). cond b (some 14) (firstOf cs)) t
-
   -- the commit that stops after n writes is refused as the commit is
-  cut-by : (k : Refusal) (stamp mask n : ℕ) → refusalOf store copy (CommitsCut stamp mask n) ≡ some (numberOf k) → out (refused (numberOf k)) store copy ≡ commitCutCall store copy stamp mask n
+  pub cut-by : (k : Refusal) (stamp mask n : ℕ) → refusalOf store copy (CommitsCut stamp mask n) ≡ some (numberOf k) → out (refused (numberOf k)) store copy ≡ commitCutCall store copy stamp mask n
   unfolding commitCutCall
   cut-by k stamp mask n e = sym (ap (λ (o : Option ℕ). stoppedBy o store copy stamp mask n) e)
 
-  pub cut-store : (k : Refusal) (stamp mask n : ℕ) → openOf store ≡ NotOpen k → out (refused (numberOf k)) store copy ≡ commitCutCall store copy stamp mask n
-  cut-store k stamp mask n e = cut-by k stamp mask n (store-refusal k (CommitsCut stamp mask n) e)
-
   pub cut-tailed : (stamp mask n : ℕ) → firstOf (storeConditions store) ≡ none → not (eqb (tailOf store) 0) ≡ true → out (refused 14) store copy ≡ commitCutCall store copy stamp mask n
-  cut-tailed stamp mask n e t = cut-by Tail stamp mask n (tail-refusal stamp mask n e t)
-
-  pub cut-refused : (k : Refusal) (stamp mask n : ℕ) → Clear (tailConditions (sideIn store copy) (CommitsCut stamp mask n)) → checkOf store copy ≡ Refused k
-      → out (refused (numberOf k)) store copy ≡ commitCutCall store copy stamp mask n
-  cut-refused k stamp mask n t e = cut-by k stamp mask n (check-refusal k (CommitsCut stamp mask n) t e)
+  unfolding refusalOf
+  cut-tailed stamp mask n e t = cut-by Tail stamp mask n (tail-first store (copyConditions store copy ++ conditions (sideIn store copy) (CommitsCut stamp mask n)) e t)
 
   pub local-fits : (v : View) → Fitting store copy v → (c : Call) (a : Answer) (copy′ : Bytes) → Local c → record { says = answerOf a; copy = copy′ } ≡ localOut copy c
       → out (answerOf a) store copy′ ≡ changeCall store copy c

@@ -1,15 +1,17 @@
 -- Lists of conditions one after the other: the first that holds, and what refuses a call that takes the store alone.
 -- Assumes nothing.
 use Prim.Native.Nat.{ℕ}
-use mathlib.Core.Bool.{Bool, cond, false, true}
+use mathlib.Core.Bool.{Bool, cond, false, not, true}
 use mathlib.Core.List.{List, [], _++_, _∷_}
-use mathlib.Core.Option.{Option, none, some}
-use mathlib.Core.Path.{_≡_, ap}
+use mathlib.Core.Option.{none, some}
+use mathlib.Core.Path.{_∙_, _≡_, ap}
 use native.Mathlib.Omega.{arith}
+use lib.Dec.{eqb}
 use Rattle.model.specs.Calls.{storeConditions, storeRefusal, storeSide}
 use Rattle.model.specs.History.{Bytes}
 use Rattle.model.specs.Machine.{Call}
-use Rattle.model.specs.Refusals.{Clear, Condition, conditions, firstOf}
+use Rattle.model.specs.Refusals.{Condition, _when_, conditions, firstOf}
+use Rattle.model.specs.Store.{tailOf}
 use Rattle.laws.proofs.Conditions.{clear, clear-first}
 
 -- a number that comes of the first list comes of both
@@ -21,10 +23,11 @@ first-stays (c ∷ cs) ds n e = go (c .holds) (first-stays cs ds n) e
     go true f e = e
     go false f e = f e
 
--- lines of which none holds are skipped
-pub first-skips : (cs ts ds : List Condition) → Clear ts → firstOf (cs ++ (ts ++ ds)) ≡ firstOf (cs ++ ds)
-first-skips [] ts ds t = clear-first ts ds t
-first-skips (c ∷ cs) ts ds t = ap (λ (o : Option ℕ). cond (c .holds) (some (c .number)) o) (first-skips cs ts ds t)
+-- 14 comes after the lines on the store, whatever follows
+pub tail-first : (store : Bytes) (ls : List Condition) → firstOf (storeConditions store) ≡ none → not (eqb (tailOf store) 0) ≡ true
+    → firstOf (storeConditions store ++ (14 when not (eqb (tailOf store) 0) ∷ ls)) ≡ some 14
+tail-first store ls e t =
+    clear-first (storeConditions store) (14 when not (eqb (tailOf store) 0) ∷ ls) (clear (storeConditions store) e) ∙ ap (λ (b : Bool). cond b (some 14) (firstOf ls)) t
 
 module _ (store : Bytes) (c : Call) where
   pub store-refused : (n : ℕ) → firstOf (storeConditions store) ≡ some n → storeRefusal store c ≡ some n

@@ -16,6 +16,7 @@ pub enum Refusal {
     Conflict,
     NoRoom,
     Tail,
+    NotHolding,
 }
 
 // Where a copied entry comes from: sheet and revision.

@@ -1,14 +1,19 @@
 // The engine for callers in C: every answer as a struct of numbers, which specs/Numbers.antt defines from the answer of the meanings.
-// Each promise is one equation with the call's meaning in crates/model/specs/Calls.antt.
+// Each promise is one equation with the call's meaning in crates/model/specs/Calls.antt, of the turn record in crates/turns/specs.
 use model::Answer;
 use model::LogEntry;
 use model::Place;
+use turns::Held;
+use turns::TurnRecord;
 ghost use mathlib.Core.Path.{_≡_};
 ghost use Rattle.model.specs.Calls.{addCall, clearCall, clearCutCall, commitCall, commitCutCall, copyCall, createCopy, createStore, deleteCall, editCall, logCall, moveCall, readPlace, revertCall, showPlace, statusCall, updateCall};
 ghost use Rattle.model.specs.Types.{answerOf, placeOf};
 ghost use Rattle.model.specs.declared.Answer.the-variants.{Logged};
 ghost use Rattle.sheetstore.specs.Numbers.{answerNumbers, both, bothNumbers, copyNumbers, cutAs, cutBoth, cutBothNumbers, cutLeft, cutLeftNumbers, cutNumbers, left, leftNumbers, logNumbers, noLog, noStanding, partNumbers, standingNumbers};
 ghost use Rattle.sheetstore.specs.Replay.{ReplayNumbers};
+ghost use Rattle.turns.specs.InTurn.{inTurnCall};
+ghost use Rattle.turns.specs.Turned.{turned, turnedOf};
+ghost use Rattle.turns.specs.Turns.{Ask, Give, TakeBack, numbersOf, turnCall};
 
 // A refusal's number, or 0 and the revision, if the call answers one.
 #[repr(C)]
@@ -314,6 +319,20 @@ pub extern "C" fn sheets_commit(
     answer_numbers(engine::commit(store, copy, stamp, mask))
 }
 
+// The same through the turn record, which the copy's seat must hold.
+#[no_mangle]
+pub extern "C" fn sheets_commit_in_turn(
+    store: &mut [u8],
+    copy: &mut [u8],
+    turn: TurnRecord,
+    stamp: u32,
+    mask: u32,
+) -> SheetsAnswer
+    ensures { λ r. ⌜ both r (now (store .exit)) (now (copy .exit)) ≡ bothNumbers (inTurnCall (now (store .entry)) (now (copy .entry)) (numbersOf turn) stamp mask) ⌝ }
+{
+    answer_numbers(engine::commit_in_turn(store, copy, turn, stamp, mask))
+}
+
 // The chosen entries come to a revision, unless one is a conflict.
 #[no_mangle]
 pub extern "C" fn sheets_update(
@@ -392,4 +411,34 @@ pub extern "C" fn sheets_replay(
     ensures { λ r. ⌜ ReplayNumbers (now (script .entry)) (now (store .entry)) (now (copies .entry)) (now (answers .entry)) r (now (store .exit)) (now (copies .exit)) (now (answers .exit)) ⌝ }
 {
     answer_numbers(replay::replay(script, store, copies, answers))
+}
+
+// A seat asks for the turn; the answer is who holds it then.
+#[no_mangle]
+pub extern "C" fn sheets_turn_ask(turn: &mut TurnRecord, seat: u32) -> Held
+    ensures { λ r. ⌜ turned (now (turn .exit)) r ≡ turnedOf (turnCall (numbersOf (now (turn .entry))) (Ask seat)) ⌝ }
+{
+    let d = turns::asked(*turn, seat);
+    *turn = d.turn;
+    d.answer
+}
+
+// A seat gives the turn back, if it holds it; the answer is who holds it then.
+#[no_mangle]
+pub extern "C" fn sheets_turn_give(turn: &mut TurnRecord, seat: u32) -> Held
+    ensures { λ r. ⌜ turned (now (turn .exit)) r ≡ turnedOf (turnCall (numbersOf (now (turn .entry))) (Give seat)) ⌝ }
+{
+    let d = turns::given_back(*turn, seat);
+    *turn = d.turn;
+    d.answer
+}
+
+// The planner takes the turn back from its holder, if there is one; the answer is who holds it then.
+#[no_mangle]
+pub extern "C" fn sheets_turn_take(turn: &mut TurnRecord) -> Held
+    ensures { λ r. ⌜ turned (now (turn .exit)) r ≡ turnedOf (turnCall (numbersOf (now (turn .entry))) TakeBack) ⌝ }
+{
+    let d = turns::taken_back(*turn);
+    *turn = d.turn;
+    d.answer
 }
