@@ -372,6 +372,16 @@ def tally(enough, requests):
     return len(never)
 
 
+def group_tally(enough, groups, seen):
+    """The same for what a test counts by itself, by group."""
+    never = [(group, what) for group, members in groups.items() for what in members if enough and not seen[group, what]]
+    for group, members in groups.items():
+        print(f'{group}: ' + '; '.join(f'{what}: {seen[group, what]}' for what in members))
+    for group, what in never:
+        print(f'none came: {group}: {what}')
+    return len(never)
+
+
 def options(doc, count):
     """The options of a test of random lists: the numbers of the lists to run, and whether they are at least as many as its own count."""
     parser = argparse.ArgumentParser(description=doc, formatter_class=argparse.RawDescriptionHelpFormatter)

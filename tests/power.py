@@ -411,13 +411,7 @@ def main():
             break
     if given.only is None:
         exhaustive(engine, random.Random(given.seed))
-    never = 0
-    for group, members in GROUPS.items():
-        print(f'{group}: ' + '; '.join(f'{what}: {seen[group, what]}' for what in members))
-        for what in members:
-            if given.enough and not calls.failed and not seen[group, what]:
-                never += 1
-                print(f'none came: {group}: {what}')
+    never = lists.group_tally(given.enough and not calls.failed, GROUPS, seen)
     stores = sum(seen['found stores', what] for what in STORES[:2])
     cut = sum(count for (group, *_), count in seen.items() if group == 'kinds at a clearing')
     print(f'{stores} stores found after a commit was cut, {cut} after a clearing was, {calls.failed} wrong')

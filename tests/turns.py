@@ -211,13 +211,8 @@ def main():
         if calls.failed:
             print(f'failed in this list: tests/turns.py --seed {given.seed} --only {n}')
             break
-    never = lists.tally(given.enough and not calls.failed, [r for r in lists.TURNS if r != lists.TURN_DAMAGED])
-    for group, members in GROUPS.items():
-        print(f'{group}: ' + '; '.join(f'{what}: {seen[group, what]}' for what in members))
-        for what in members:
-            if given.enough and not calls.failed and not seen[group, what]:
-                never += 1
-                print(f'none came: {group}: {what}')
+    enough = given.enough and not calls.failed
+    never = lists.tally(enough, [r for r in lists.TURNS if r != lists.TURN_DAMAGED]) + lists.group_tally(enough, GROUPS, seen)
     print(f'{calls.calls} calls, {states} states of the record and its waits, {calls.failed} wrong')
     sys.exit(calls.failed + never != 0)
 
