@@ -3,7 +3,7 @@
 use mathlib.Core.Bool.{Bool, _||_, cond, false, not, true}
 use mathlib.Core.List.{List, [], _∷_}
 use mathlib.Core.Option.{none, some}
-use mathlib.Core.Path.{_∙_, _≡_, ap, refl, sym}
+use mathlib.Core.Path.{_∙_, _≡_, ap, ap₂, refl, sym}
 use Prim.Native.Nat.{ℕ}
 use borrow.Author.Tests.{eq-eqb, eqb-true, ne-eqb, not-false}
 use lib.Dec.{eqb}
@@ -11,7 +11,7 @@ use lib.ListN.{getD}
 use Rattle.model.specs.Codec.{padTo}
 use Rattle.laws.proofs.Rows.{or-false}
 use Rattle.turns.specs.Turned.{heldOf, recordOf, turned, turnedOf}
-use Rattle.turns.specs.Turns.{Queue, TurnCall, givenBack, heldBy, holder, inForm, noTurn, numbersOf, passedOn, queueAfter, queueOf, strangeSeat, turnBy, turnCall}
+use Rattle.turns.specs.Turns.{Queue, TurnCall, givenBack, heldBy, holder, inForm, noTurn, numbersOf, passedOn, queueAfter, queueOf, strangeSeat, turnBy, turnCall, turnOut}
 use Rattle.turns.specs.declared.TurnRecord.{TurnRecord}
 use Rattle.turns.proofs.Form.{padded-is}
 
@@ -27,6 +27,11 @@ holder-is h l = go (eqb h 0) refl
     go true e = sym (eqb-true h 0 e)
     go false e = refl
 
+-- a call that is not refused
+pub done-is : (r : List ℕ) (c : TurnCall) → strangeSeat c ≡ false → inForm r ≡ true → turnCall r c ≡ turnOut (heldBy (holder (queueAfter c (queueOf r)))) (padTo 4 (queueAfter c (queueOf r)))
+unfolding turnCall
+done-is r c e f = ap₂ (λ (a b : Bool). turnBy (cond (a || not b) (some 7) none) r c) e f
+
 module _ (t : TurnRecord) (c : TurnCall) where
   pub formed : (strangeSeat c || not (inForm (numbersOf t))) ≡ false → inForm (numbersOf t) ≡ true
   formed e = not-false (inForm (numbersOf t)) (or-false (strangeSeat c) (not (inForm (numbersOf t))) e .1)
@@ -37,11 +42,10 @@ module _ (t : TurnRecord) (c : TurnCall) where
 
   pub left-is : (strangeSeat c || not (inForm (numbersOf t))) ≡ false → (u : TurnRecord) → numbersOf u ≡ padTo 4 (queueAfter c (queueOf (numbersOf t)))
       → turned u (heldOf (heldBy (u .holder))) ≡ turnedOf (turnCall (numbersOf t) c)
-  unfolding turnCall
   left-is e u w =
       ap (λ (l : List ℕ). turned (recordOf l) (heldOf (heldBy (getD l 0 0)))) w
       ∙ ap (λ (n : ℕ). turned (recordOf (padTo 4 (queueAfter c (queueOf (numbersOf t))))) (heldOf (heldBy n))) (holder-first (queueAfter c (queueOf (numbersOf t))))
-      ∙ sym (ap (λ (b : Bool). turnedOf (turnBy (cond b (some 7) none) (numbersOf t) c)) e)
+      ∙ sym (ap turnedOf (done-is (numbersOf t) c (or-false (strangeSeat c) (not (inForm (numbersOf t))) e .0) (formed e)))
 
 -- giving back: by the holder, and by another seat
 module _ (t : TurnRecord) (s : ℕ) where

@@ -3,7 +3,6 @@
 use Prim.Native.Nat.{_<_, _≤_, suc, zero, ℕ}
 use mathlib.Core.Bool.{Bool, _||_, cond, false, not, true}
 use mathlib.Core.List.{List, [], _++_, _∷_}
-use mathlib.Core.Option.{none, some}
 use mathlib.Core.Path.{_∙_, _≡_, ap, ap₂, refl, subst, sym}
 use native.Mathlib.Omega.{arith}
 use borrow.Author.Tests.{eq-eqb, ne-eqb}
@@ -11,8 +10,8 @@ use lib.Dec.{eqb}
 use lib.ListN.{getD, length, length-append, set}
 use Rattle.model.specs.Codec.{padTo}
 use Rattle.turns.specs.TakingTurns.{EndOf, Sentences, TakingTurns}
-use Rattle.turns.specs.Turns.{Ask, Give, Queue, TakeBack, TurnCall, asked, heldBy, holder, inForm, isIn, passedOn, queueAfter, queueOf, strangeSeat, turnBy, turnCall, turnOut}
-use Rattle.turns.proofs.Calls.{holder-first, holder-is}
+use Rattle.turns.specs.Turns.{Ask, Give, Queue, TakeBack, TurnCall, asked, heldBy, holder, inForm, isIn, passedOn, queueAfter, queueOf, strangeSeat, turnCall, turnOut}
+use Rattle.turns.proofs.Calls.{done-is, holder-first, holder-is}
 use Rattle.turns.proofs.Cascade.{joins-first, passed-is}
 use Rattle.turns.proofs.Form.{line-is, padded-is}
 use Rattle.turns.proofs.Queues.{Seats, few, once-append, seats-append}
@@ -60,9 +59,8 @@ module _ (h a b c : ℕ) (form : inForm (h ∷ a ∷ b ∷ c ∷ []) ≡ true) w
 
   -- a call that is not refused leaves these numbers, and answers their first
   leaves : (d : TurnCall) → strangeSeat d ≡ false → {l : List ℕ} → l ≡ padTo 4 (queueAfter d q) → turnCall r d ≡ turnOut (heldBy (getD l 0 0)) l
-  unfolding turnCall
   leaves d e w =
-      ap₂ (λ (x y : Bool). turnBy (cond (x || not y) (some 7) none) r d) e form
+      done-is r d e form
       ∙ ap (λ (n : ℕ). turnOut (heldBy n) (padTo 4 (queueAfter d q))) (sym (holder-first (queueAfter d q)))
       ∙ ap (λ (l : List ℕ). turnOut (heldBy (getD l 0 0)) l) (sym w)
 

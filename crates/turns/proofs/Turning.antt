@@ -1,4 +1,4 @@
--- A record in form is a line of seats, the calls on it are those on the line, and the bound of three.
+-- The calls on a line of seats with zeros behind it leave such a line, and the bound of three.
 -- Assumes nothing.
 use Prim.Native.Nat.{_+_, _≤_, suc, ℕ}
 use mathlib.Core.Bool.{Bool, _&&_, _||_, cond, false, not, true}
@@ -13,6 +13,7 @@ use lib.ListN.{length, length-append, take}
 use Rattle.model.specs.Codec.{padTo}
 use Rattle.turns.specs.Turns.{AlwaysInForm, Ask, BoundOfThree, Give, HoldsWithin, Queue, TakeBack, TurnCall, asked, endings, endsTurn, free, givenBack, heldBy, holder, inForm, isIn, isSeat, noTurn, passedOn, queueAfter, queueOf, strangeSeat, turnAfter, turnBy, turnCall, turnOut}
 use Rattle.laws.proofs.Accepted.{both}
+use Rattle.turns.proofs.Calls.{done-is}
 use Rattle.turns.proofs.Form.{form-is, queue-is}
 use Rattle.turns.proofs.Queues.{Right, few, in-append, noSeatTwice, once-append, seats-append}
 
@@ -23,9 +24,8 @@ unfolding turnCall
 strange-is q R c e = ap (λ (b : Bool). turnBy (cond (b || not (inForm (padTo 4 q))) (some 7) none) (padTo 4 q) c) e
 
 called : (q : Queue) → Right q → (c : TurnCall) → strangeSeat c ≡ false → turnCall (padTo 4 q) c ≡ turnOut (heldBy (holder (queueAfter c q))) (padTo 4 (queueAfter c q))
-unfolding turnCall
 called q R c e =
-    ap₂ (λ (a b : Bool). turnBy (cond (a || not b) (some 7) none) (padTo 4 q) c) e (form-is q R)
+    done-is (padTo 4 q) c e (form-is q R)
     ∙ ap (λ (r : Queue). turnOut (heldBy (holder (queueAfter c r))) (padTo 4 (queueAfter c r))) (queue-is q R)
 
 seat-so : (s : ℕ) → isSeat s ≡ true → (1 ≤ s) × (s ≤ 4)
@@ -57,26 +57,26 @@ right-after (Ask s) q e R = let l = seat-so s (not-false (isSeat s) e) in right-
 right-after (Give s) q e R = right-given s q R
 right-after TakeBack q e R = right-passed q R
 
--- every record that the calls leave is a queue
-pub left-is : (q : Queue) → Right q → (c : TurnCall) → (q′ : Queue) × Right q′ × (turnCall (padTo 4 q) c .left ≡ padTo 4 q′)
-left-is q R c = go (strangeSeat c) refl
+-- every record that the calls leave is such a line
+line-left : (q : Queue) → Right q → (c : TurnCall) → (q′ : Queue) × Right q′ × (turnCall (padTo 4 q) c .left ≡ padTo 4 q′)
+line-left q R c = go (strangeSeat c) refl
   where
     go : (b : Bool) → strangeSeat c ≡ b → (q′ : Queue) × Right q′ × (turnCall (padTo 4 q) c .left ≡ padTo 4 q′)
     go true e = (q, R, ap (λ o. o .left) (strange-is q R c e))
     go false e = (queueAfter c q, right-after c q e R, ap (λ o. o .left) (called q R c e))
 
-pub after-is : (cs : List TurnCall) (q : Queue) → Right q → (q′ : Queue) × Right q′ × (turnAfter (padTo 4 q) cs ≡ padTo 4 q′)
-after-is [] q R = (q, R, refl)
-after-is (c ∷ cs) q R =
-    let n = left-is q R c in
-    let r = after-is cs (n .0) (n .1) in
+line-after : (cs : List TurnCall) (q : Queue) → Right q → (q′ : Queue) × Right q′ × (turnAfter (padTo 4 q) cs ≡ padTo 4 q′)
+line-after [] q R = (q, R, refl)
+line-after (c ∷ cs) q R =
+    let n = line-left q R c in
+    let r = line-after cs (n .0) (n .1) in
     (r .0, r .1, ap (λ (x : List ℕ). turnAfter x cs) (n .2) ∙ r .2)
 
 nobody : Right []
 nobody = record { seats = tt; once = refl }
 
 pub always-in-form : AlwaysInForm
-always-in-form cs = let a = after-is cs [] nobody in ap inForm (a .2) ∙ form-is (a .0) (a .1)
+always-in-form cs = let a = line-after cs [] nobody in ap inForm (a .2) ∙ form-is (a .0) (a .1)
 
 -- ---- the bound
 
@@ -182,7 +182,7 @@ within m n s r cs h w = (w .0, (let v = w .1 in omega (arith, v, h)), w .2)
 -- THE STATEMENT
 pub bound-of-three : BoundOfThree
 bound-of-three before later s lo hi h =
-    let f = after-is before [] nobody in
+    let f = line-after before [] nobody in
     let q : Queue = asked s (f .0) in
     let R : Right q = right-asked s (f .0) lo hi (f .1) in
     let l : turnCall (turnAfter free before) (Ask s) .left ≡ padTo 4 q =
