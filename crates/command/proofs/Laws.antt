@@ -1,19 +1,18 @@
 -- How two words are held against each other, and a line is taken apart into words, in the terms of the code.
 -- Assumes nothing.
-use Prim.Native.Nat.{_+_, _-_, _<_, _≤_, suc, ℕ}
+use Prim.Native.Nat.{_+_, _<_, _≤_, ℕ}
 use mathlib.Core.Bool.{Bool, false, true}
 use mathlib.Core.List.{List, [], _∷_}
 use mathlib.Core.Option.{Option, none}
 use mathlib.Core.Path.{_∙_, _≡_, ap, refl}
-use native.Mathlib.Numerals.{towards-suc}
 use native.Mathlib.Omega.{arith}
 use borrow.Author.Tests.{eq-eqb, leb-false, leb-true, ltb-false, ltb-true, ne-eqb}
-use lib.Dec.{eqb, leb, ltb}
-use lib.ListN.{drop, getD, length, length-drop, take}
-use lib.Seq.{take-all}
+use lib.Dec.{leb, ltb}
+use lib.ListN.{drop, getD, length, take}
 use Rattle.block.specs.Lists.{same}
 use Rattle.model.specs.Run.{Turn}
 use Rattle.text.proofs.Laws.{next, none-left}
+use Rattle.text.proofs.Splitting.{tail, tail-is, words-last, words-more}
 use Rattle.text.specs.Text.{bytesOr, hexOf, numberOf, spanOf, words}
 use Rattle.command.specs.Command.{fourOf, fourthOf, keyOf, lineTurn, threeOf, turnOf}
 use Rattle.command.specs.declared.Key.{Key}
@@ -38,40 +37,6 @@ module _ (a b : List ℕ) (i : ℕ) where
       by-test false e = let g : i < length b = leb-false _ _ e in rw (none-left a i h, next b i g, e)
 
 -- ---- words
-
--- the only word
-pub words-last : (s : List ℕ) → length s ≤ spanOf 32 s → words s ≡ s ∷ []
-unfolding words spanOf
-words-last [] h = refl
-words-last (x ∷ s) h = by-test (eqb x 32) refl (words-last s)
-  where
-    by-test : (t : Bool) → eqb x 32 ≡ t → (length s ≤ spanOf 32 s → words s ≡ s ∷ []) → words (x ∷ s) ≡ (x ∷ s) ∷ []
-    by-test true e ih = let g : suc (length s) ≤ 0 = rw e at h in absurd (omega arith)
-    by-test false e ih =
-        let g : suc (length s) ≤ spanOf 32 s + 1 = rw e at h in
-        let k : length s ≤ spanOf 32 s = omega arith in
-        rw (e, ih k)
-
--- the first word, and the words after it
-pub words-more : (s : List ℕ) → spanOf 32 s < length s → words s ≡ take (spanOf 32 s) s ∷ words (drop (spanOf 32 s + 1) s)
-unfolding words spanOf
-words-more [] h = absurd (omega arith)
-words-more (x ∷ s) h = by-test (eqb x 32) refl (words-more s)
-  where
-    by-test : (t : Bool) → eqb x 32 ≡ t → (spanOf 32 s < length s → words s ≡ take (spanOf 32 s) s ∷ words (drop (spanOf 32 s + 1) s))
-        → words (x ∷ s) ≡ take (spanOf 32 (x ∷ s)) (x ∷ s) ∷ words (drop (spanOf 32 (x ∷ s) + 1) (x ∷ s))
-    by-test true e ih = rw e
-    by-test false e ih =
-        let g : spanOf 32 s + 1 < suc (length s) = rw e at h in
-        let k : spanOf 32 s < length s = omega arith in
-        rw (e, ih k) (simp towards-suc)
-
--- what `&s[k..]` is, and that it is what is left
-abbrev pub tail : ℕ → List ℕ → List ℕ
-tail k s = take (length s - k) (drop k s)
-
-pub tail-is : (k : ℕ) (s : List ℕ) → tail k s ≡ drop k s
-tail-is k s = take-all (length s - k) (drop k s) (simp length-drop (omega arith))
 
 words-some : (s : List ℕ) → (u : List ℕ) × (ws : List (List ℕ)) × (words s ≡ u ∷ ws)
 words-some s = by-test (ltb (spanOf 32 s) (length s)) refl

@@ -15,14 +15,16 @@ use Rattle.block.specs.Check.{checksOf, sealOf}
 use Rattle.block.specs.Write.{written}
 use Rattle.model.proofs.Layouts.{blank-zero}
 use Rattle.model.specs.Blocks.{blank, fieldsOf, label}
-use Rattle.model.specs.Calls.{createBy, createStore, freshStore, sizeCondition}
+use Rattle.model.specs.Calls.{Created, createBy, createCopy, createStore, freshCopy, freshStore, sizeCondition}
 use Rattle.model.specs.Codec.{encode, joined, padded}
 use Rattle.model.specs.History.{Bytes}
 use Rattle.model.specs.Store.{blockCount}
 use Rattle.model.specs.Types.{createdAs}
+use Rattle.model.specs.declared.Answer.{Answer}
 use Rattle.model.specs.declared.Answer.the-variants.{Done, Refused}
 use Rattle.model.specs.declared.Refusal.the-variants.{StoreLength}
 use Rattle.laws.proofs.Conditions.{sized-so}
+use Rattle.laws.proofs.Fresh.{create-copy, create-store}
 
 -- zeros written over all bytes
 pub all-zero : (l : List ℕ) → written 0 (replicate (length l - 0) 0) l ≡ replicate (length l) 0
@@ -77,3 +79,10 @@ create-done l m e q =
     let p = sized-so l e in
     ap (createdAs Done) (q ∙ fresh-bytes (blockCount l) (length l) (p .0) (omega (arith, p .1)))
     ∙ sym (ap (λ (t : Bool). createBy (cond t (some 1) none) l (freshStore (blockCount l))) e)
+
+-- what a caller of create learns of a buffer of the right length
+pub store-made : (N : ℕ) (l m : Bytes) (r : Answer) → length l ≡ N * 512 → 2 ≤ N → N ≤ 4_096 → createdAs r m ≡ createStore l → m ≡ freshStore N
+store-made N l m r e lo hi q = ap (λ (c : Created). c .buffer) (q ∙ create-store N l e lo hi)
+
+pub copy-made : (l m : Bytes) (r : Answer) (k : ℕ) → length l ≡ 16_896 → 1 ≤ k → k ≤ 4 → createdAs r m ≡ createCopy l k → m ≡ freshCopy k
+copy-made l m r k e lo hi q = ap (λ (c : Created). c .buffer) (q ∙ create-copy l k e lo hi)

@@ -4,5 +4,4 @@ pub mod Lines
 pub mod Turns
 pub mod Machine
 pub mod Room
-pub mod Making
 pub mod Sample

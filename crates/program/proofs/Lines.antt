@@ -1,23 +1,20 @@
 -- A line on buffers, and the lines one after the other, in the terms of the code.
 -- Assumes nothing.
 use Prim.Native.Nat.{_+_, _-_, _<_, _≤_, ℕ}
-use mathlib.Core.Bool.{Bool, false, true}
 use mathlib.Core.List.{List, [], _++_, _∷_}
 use mathlib.Core.Option.{Option, some}
-use mathlib.Core.Path.{_∙_, _≡_, ap, refl, subst, sym}
-use native.Mathlib.Numerals.{towards-suc}
+use mathlib.Core.Path.{_∙_, _≡_, ap, subst, sym}
 use native.Mathlib.Omega.{arith}
-use lib.Dec.{eqb}
 use lib.ListN.{drop, drop-of-length-le, length, length-append, length-drop, take}
 use lib.Seq.{drop-drop}
 use Rattle.block.proofs.Writing.{written-both, written-none}
 use Rattle.block.specs.Write.{written}
-use Rattle.command.proofs.Laws.{tail, tail-is}
 use Rattle.command.specs.Command.{lineTurn, turn}
 use Rattle.model.specs.Calls.{Buffers, Out, afterTurn, call, out, turnOn}
 use Rattle.model.specs.History.{Bytes}
 use Rattle.model.specs.Machine.{Answer, Call}
 use Rattle.model.specs.Run.{Turn}
+use Rattle.text.proofs.Splitting.{lines-step, tail, tail-is}
 use Rattle.text.specs.Text.{lines, spanOf}
 use Rattle.program.specs.Buffers.{answeredOn, pool, transcriptOn}
 use Rattle.program.specs.Output.{textOf}
@@ -45,21 +42,6 @@ module _ (b : Buffers) (t : Turn) (o : Option Turn) (e : some t ≡ o) where
   line-buffers b′ q = q ∙ ap (λ (x : Option Turn). answeredOn b x .1) e
 
 -- ---- the first line, and the lines after it
-
-lines-step : (s : List ℕ) → 0 < length s → lines s ≡ take (spanOf 10 s) s ∷ lines (drop (spanOf 10 s + 1) s)
-unfolding lines spanOf
-lines-step [] h = absurd (omega arith)
-lines-step (x ∷ []) h = by-test (eqb x 10) refl
-  where
-    by-test : (t : Bool) → eqb x 10 ≡ t → lines (x ∷ []) ≡ take (spanOf 10 (x ∷ [])) (x ∷ []) ∷ lines (drop (spanOf 10 (x ∷ []) + 1) (x ∷ []))
-    by-test true e = rw e
-    by-test false e = rw e
-lines-step (x ∷ y ∷ s) h = by-test (eqb x 10) refl (lines-step (y ∷ s) (omega arith))
-  where
-    by-test : (t : Bool) → eqb x 10 ≡ t → lines (y ∷ s) ≡ take (spanOf 10 (y ∷ s)) (y ∷ s) ∷ lines (drop (spanOf 10 (y ∷ s) + 1) (y ∷ s))
-        → lines (x ∷ y ∷ s) ≡ take (spanOf 10 (x ∷ y ∷ s)) (x ∷ y ∷ s) ∷ lines (drop (spanOf 10 (x ∷ y ∷ s) + 1) (x ∷ y ∷ s))
-    by-test true e ih = rw e
-    by-test false e ih = simp (e, ih, towards-suc)
 
 -- the line at a place of the input, and the lines after it
 pub lines-at : (input : List ℕ) (at n : ℕ) → at < length input → n ≡ spanOf 10 (tail at input)

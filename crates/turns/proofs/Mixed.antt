@@ -29,7 +29,7 @@ use Rattle.turns.specs.Turns.{free, holder, inForm, queueOf, turnAfter, 
 
 -- ---- one commit through the record, on buffers that show a state
 
-abbrev left-as : Buffers → ℕ → Out → Buffers
+abbrev pub left-as : Buffers → ℕ → Out → Buffers
 left-as b k o = record { store = o .store; copies = set (b .copies) (k - 1) (o .copy) }
 
 module _ (N : ℕ) (b : Buffers) (s : State) (W : Shows N b s) (K : Kept s) (r : List ℕ) (k stamp mask : ℕ) (lo : 1 ≤ k) (hi : k ≤ 4) (ty : stamp < 2 ^ 32) where
@@ -69,7 +69,7 @@ module _ (N : ℕ) (b : Buffers) (s : State) (W : Shows N b s) (K : Kept s) (r :
       let n = own-by-another r (sideOf s k) stamp mask e in
       ap (left-as b k) (call-is ∙ ap (λ (o : Option ℕ). changeBy o (b .store) (copyIn b k) (Commits stamp mask)) (n .1)) ∙ still
 
-  abbrev Agrees : Option ℕ → Out → Type 0
+  abbrev pub Agrees : Option ℕ → Out → Type 0
   Agrees o x = (x .says ≡ stepBy o s k (Commits stamp mask) .0) × Shows N (record { store = x .store; copies = set (b .copies) (k - 1) (x .copy) }) (stepBy o s k (Commits stamp mask) .1)
 
   agrees-by : (o : Option ℕ) → firstOf (ownInTurn r (sideOf s k) stamp mask) ≡ o → Agrees o (changeBy o (b .store) (copyIn b k) (Commits stamp mask))
@@ -83,7 +83,7 @@ module _ (N : ℕ) (b : Buffers) (s : State) (W : Shows N b s) (K : Kept s) (r :
       (subst (Agrees (firstOf (ownConditions (sideOf s k) (Commits stamp mask)))) plain-is A)
 
   -- it answers as the machine does, and the buffers show the machine's state
-  commit-agrees : Agrees (firstOf (ownInTurn r (sideOf s k) stamp mask)) (inTurnCall (b .store) (copyIn b k) r stamp mask)
+  pub commit-agrees : Agrees (firstOf (ownInTurn r (sideOf s k) stamp mask)) (inTurnCall (b .store) (copyIn b k) r stamp mask)
   commit-agrees = subst (Agrees (firstOf (ownInTurn r (sideOf s k) stamp mask))) (sym call-is) (agrees-by (firstOf (ownInTurn r (sideOf s k) stamp mask)) refl)
 
   kept-by : (o : Option ℕ) → firstOf (ownInTurn r (sideOf s k) stamp mask) ≡ o → Kept (stepBy o s k (Commits stamp mask) .1)
@@ -93,7 +93,7 @@ module _ (N : ℕ) (b : Buffers) (s : State) (W : Shows N b s) (K : Kept s) (r :
       let q : firstOf (ownConditions (sideOf s k) (Commits stamp mask)) ≡ none = none-holds (ownConditions (sideOf s k) (Commits stamp mask)) (l .0, l .1 .1 .1) in
       subst (λ (o : Option ℕ). Kept (stepBy o s k (Commits stamp mask) .1)) q (kept-step s (turnOf k stamp mask) (record { low = lo; high = hi; typed = ty }) K)
 
-  commit-kept : Kept (stepBy (firstOf (ownInTurn r (sideOf s k) stamp mask)) s k (Commits stamp mask) .1)
+  pub commit-kept : Kept (stepBy (firstOf (ownInTurn r (sideOf s k) stamp mask)) s k (Commits stamp mask) .1)
   commit-kept = kept-by (firstOf (ownInTurn r (sideOf s k) stamp mask)) refl
 
 -- ---- a list
@@ -184,7 +184,7 @@ valid-take zero ms v = tt
 valid-take (suc n) [] v = tt
 valid-take (suc n) (m ∷ ms) v = (v .0, valid-take n ms (v .1))
 
-valid-append : (ms us : List Move) → ValidMoves ms → ValidMoves us → ValidMoves (ms ++ us)
+pub valid-append : (ms us : List Move) → ValidMoves ms → ValidMoves us → ValidMoves (ms ++ us)
 valid-append [] us v w = w
 valid-append (m ∷ ms) us v w = (v .0, valid-append ms us (v .1) w)
 

@@ -25,7 +25,7 @@ pub record Right (q : Queue) : Type 0 where
   pub seats : Seats q
   pub once : noSeatTwice q ≡ true
 
-or-none : (b : Bool) → (b || false) ≡ b
+pub or-none : (b : Bool) → (b || false) ≡ b
 or-none true = refl
 or-none false = refl
 
@@ -54,24 +54,24 @@ once-append s (y ∷ q) e n =
 -- ---- what those in line weigh together: each seat's weight once, or not at all
 
 module _ (w : ℕ → ℕ) where
-  abbrev sumOf : Queue → ℕ
+  abbrev pub sumOf : Queue → ℕ
   sumOf [] = 0
   sumOf (s ∷ q) = w s + sumOf q
 
-  abbrev share : ℕ → Queue → ℕ
+  abbrev pub share : ℕ → Queue → ℕ
   share x q = cond (isIn x q) (w x) 0
 
-  share-none : (x : ℕ) (q : Queue) → isIn x q ≡ false → share x q ≡ 0
+  pub share-none : (x : ℕ) (q : Queue) → isIn x q ≡ false → share x q ≡ 0
   share-none x q e = ap (λ (b : Bool). cond b (w x) 0) e
 
-  share-le : (x : ℕ) (q : Queue) → share x q ≤ w x
+  pub share-le : (x : ℕ) (q : Queue) → share x q ≤ w x
   share-le x q = go (isIn x q)
     where
       go : (b : Bool) → cond b (w x) 0 ≤ w x
       go true = omega arith
       go false = omega arith
 
-  sum-shares : (q : Queue) → Seats q → noSeatTwice q ≡ true → sumOf q ≡ share 1 q + (share 2 q + (share 3 q + share 4 q))
+  pub sum-shares : (q : Queue) → Seats q → noSeatTwice q ≡ true → sumOf q ≡ share 1 q + (share 2 q + (share 3 q + share 4 q))
   sum-shares [] a e = refl
   sum-shares (zero ∷ q) a e = absurd (let z : 1 ≤ 0 = a .0 .0 in omega arith)
   sum-shares (suc zero ∷ q) a e =

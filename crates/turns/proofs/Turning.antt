@@ -23,7 +23,7 @@ strange-is : (q : Queue) → Right q → (c : TurnCall) → strangeSeat c ≡ tr
 unfolding turnCall
 strange-is q R c e = ap (λ (b : Bool). turnBy (cond (b || not (inForm (padTo 4 q))) (some 7) none) (padTo 4 q) c) e
 
-called : (q : Queue) → Right q → (c : TurnCall) → strangeSeat c ≡ false → turnCall (padTo 4 q) c ≡ turnOut (heldBy (holder (queueAfter c q))) (padTo 4 (queueAfter c q))
+pub called : (q : Queue) → Right q → (c : TurnCall) → strangeSeat c ≡ false → turnCall (padTo 4 q) c ≡ turnOut (heldBy (holder (queueAfter c q))) (padTo 4 (queueAfter c q))
 called q R c e =
     done-is (padTo 4 q) c e (form-is q R)
     ∙ ap (λ (r : Queue). turnOut (heldBy (holder (queueAfter c r))) (padTo 4 (queueAfter c r))) (queue-is q R)
@@ -58,7 +58,7 @@ right-after (Give s) q e R = right-given s q R
 right-after TakeBack q e R = right-passed q R
 
 -- every record that the calls leave is such a line
-line-left : (q : Queue) → Right q → (c : TurnCall) → (q′ : Queue) × Right q′ × (turnCall (padTo 4 q) c .left ≡ padTo 4 q′)
+pub line-left : (q : Queue) → Right q → (c : TurnCall) → (q′ : Queue) × Right q′ × (turnCall (padTo 4 q) c .left ≡ padTo 4 q′)
 line-left q R c = go (strangeSeat c) refl
   where
     go : (b : Bool) → strangeSeat c ≡ b → (q′ : Queue) × Right q′ × (turnCall (padTo 4 q) c .left ≡ padTo 4 q′)

@@ -8,9 +8,10 @@ use lib.ListN.{length}
 use lib.Seq.{length-take-le}
 use Rattle.block.specs.Write.{written}
 use Rattle.text.proofs.Laws.{unwritten}
+use Rattle.text.proofs.Splitting.{tail}
 use Rattle.text.specs.Text.{words}
 use Rattle.command.specs.Command.{fourthOf}
-use Rattle.command.proofs.Laws.{four-same, line-five, line-four, line-one, line-three, line-two, tail, three-same}
+use Rattle.command.proofs.Laws.{four-same, line-five, line-four, line-one, line-three, line-two, three-same}
 use Rattle.command.proofs.parse.Statement.{statement}
 use Rattle.command.proofs.parse.Tie as tie
 

@@ -8,7 +8,7 @@ use borrow.Author.Needs.{needs}
 use lib.ListN.{drop, length, take}
 use lib.Seq.{length-take-le}
 use Rattle.block.specs.Write.{written}
-use Rattle.command.proofs.Laws.{tail}
+use Rattle.text.proofs.Splitting.{tail}
 use Rattle.model.specs.History.{Bytes}
 use Rattle.text.specs.Text.{lines}
 use Rattle.program.specs.Buffers.{pool, transcriptOn}

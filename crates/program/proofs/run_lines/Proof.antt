@@ -5,12 +5,12 @@ use mathlib.Core.List.{List}
 use mathlib.Core.Path.{_∙_, _≡_, ap, sym}
 use native.Mathlib.Omega.{arith}
 use borrow.Author.Needs.{needs}
+use Rattle.engine.proofs.Fresh.{copy-made, store-made}
 use Rattle.model.specs.Calls.{freshCopy, freshStore}
 use Rattle.text.specs.Text.{lines}
 use Rattle.program.specs.Buffers.{pool, transcriptOn}
 use Rattle.program.specs.Output.{output}
 use Rattle.program.proofs.Machine.{fresh-transcript}
-use Rattle.program.proofs.Making.{copy-made, store-made}
 use Rattle.program.proofs.Printing.{said-as}
 use Rattle.program.proofs.Room.{not-long}
 use Rattle.program.proofs.run_lines.Statement.{statement}
@@ -75,7 +75,7 @@ returns c =
     let one = o .last .0 in
     let two = t .last .0 in
     let ls = lines (a .input .now) in
-    let p : store ≡ freshStore 32 = store-made (c .before .before .before .before .before .before .before .before .before .before .before .before .before .before .before .before .before .before .before .before .before .before .before .store-space .result) store (s .result) (sym (c .before .before .before .before .before .before .before .before .before .before .before .before .before .before .before .before .before .before .before .before .before .before .before .store-space .ensures)) (s .ensures) in
+    let p : store ≡ freshStore 32 = store-made 32 (c .before .before .before .before .before .before .before .before .before .before .before .before .before .before .before .before .before .before .before .before .before .before .before .store-space .result) store (s .result) (sym (c .before .before .before .before .before .before .before .before .before .before .before .before .before .before .before .before .before .before .before .before .before .before .before .store-space .ensures)) (omega arith) (omega arith) (s .ensures) in
     let q : one ≡ freshCopy 1 = copy-made (c .before .before .before .before .before .before .before .before .before .before .before .before .before .before .before .before .before .before .before .before .before .before .copy-space .result) one (o .result) 1 (sym (c .before .before .before .before .before .before .before .before .before .before .before .before .before .before .before .before .before .before .before .before .before .before .copy-space .ensures)) (omega arith) (omega arith) (o .ensures) in
     let r : two ≡ freshCopy 2 = copy-made (c .before .before .before .before .before .before .before .before .before .before .before .before .before .before .before .before .before .before .before .before .before .copy-space2 .result) two (t .result) 2 (sym (c .before .before .before .before .before .before .before .before .before .before .before .before .before .before .before .before .before .before .before .before .before .copy-space2 .ensures)) (omega arith) (omega arith) (t .ensures) in
     let e : transcriptOn (pool store one two) ls ≡ output (a .input .now) =
