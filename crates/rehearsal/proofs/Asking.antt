@@ -2,43 +2,24 @@
 -- Assumes nothing.
 use Prim.Native.Nat.{_%_, _-_, ℕ}
 use mathlib.Core.Bool.{Bool, _&&_, cond, false, not, true}
-use mathlib.Core.List.{List, [], _∷_}
-use mathlib.Core.Option.{Option, none, some}
+use mathlib.Core.List.{List}
 use mathlib.Core.Path.{_∙_, _≡_, ap, ap₂, refl, sym}
 use borrow.Author.Tests.{eq-eqb, ne-eqb}
 use lib.Dec.{eqb}
 use lib.ListN.{set}
 use Rattle.laws.proofs.Rows.{and-nothing}
 use Rattle.model.specs.Calls.{Buffers}
-use Rattle.model.specs.Codec.{padTo}
-use Rattle.model.specs.Refusals.{firstOf}
 use Rattle.rehearsal.specs.Desk.{hallIn}
 use Rattle.rehearsal.specs.RehearsalCalls.{Hall, askingBy, grantOn, hall, leaves, oneAsk, rowIn, seatAsks}
 use Rattle.rehearsal.specs.declared.Day.{Day}
 use Rattle.rehearsal.specs.declared.Tally.{Tally}
+use Rattle.turns.proofs.Traces.{left-four}
 use Rattle.turns.specs.Mixed.{bench, held}
-use Rattle.turns.specs.Turned.{heldOf, recordOf, turnedOf}
-use Rattle.turns.specs.Turns.{Ask, Queue, TurnAnswer, TurnCall, TurnOut, heldBy, isIn, noTurn, numbersOf, queueAfter, queueOf, turnBy, turnCall, turnConditions}
-use Rattle.turns.specs.declared.TurnRecord.{TurnRecord}
+use Rattle.turns.specs.Turned.{heldOf, turnedOf}
+use Rattle.turns.specs.Turns.{Ask, TurnAnswer, TurnOut, heldBy, isIn, noTurn, numbersOf, queueOf, turnCall}
 use Rattle.turns.specs.declared.Turned.{Turned}
 
--- ---- a record and its four numbers
-
-padded-four : (q : Queue) → numbersOf (recordOf (padTo 4 q)) ≡ padTo 4 q
-padded-four [] = refl
-padded-four (a ∷ []) = refl
-padded-four (a ∷ b ∷ []) = refl
-padded-four (a ∷ b ∷ c ∷ []) = refl
-padded-four (a ∷ b ∷ c ∷ d ∷ q) = refl
-
-pub numbers-left : (t : TurnRecord) (c : TurnCall) → numbersOf (recordOf (turnCall (numbersOf t) c .left)) ≡ turnCall (numbersOf t) c .left
-unfolding turnCall
-numbers-left t c = go (firstOf (turnConditions (numbersOf t) c))
-  where
-    go : (o : Option ℕ) → numbersOf (recordOf (turnBy o (numbersOf t) c .left)) ≡ turnBy o (numbersOf t) c .left
-    go (some n) = refl
-    go none = padded-four (queueAfter c (queueOf (numbersOf t)))
-
+-- the holder that an answer names
 pub holder-left : (a : TurnAnswer) → heldOf a .holder ≡ leaves (held a)
 holder-left (noTurn n) = refl
 holder-left (heldBy s) = refl
@@ -70,7 +51,7 @@ module _ (b : Buffers) (d : Day) (p s t : ℕ) where
     left-so : hallIn b day-left ≡ left
     left-so =
         ap₂ (λ (n : List ℕ) (m : Tally). hall (bench b n) (d .since) (set (d .rows) (s - 1) m))
-        (ap (λ (y : Turned). numbersOf (y .turn)) ex ∙ numbers-left (d .turn) (Ask s)) er
+        (ap (λ (y : Turned). numbersOf (y .turn)) ex ∙ left-four (d .turn) (Ask s)) er
 
     holder-so : x .answer .holder ≡ leaves (held (told .says))
     holder-so = ap (λ (y : Turned). y .answer .holder) ex ∙ holder-left (told .says)

@@ -19,13 +19,14 @@ use Rattle.rehearsal.specs.declared.Setting.{Setting}
 use Rattle.rehearsal.specs.declared.Tally.{Tally}
 use Rattle.turns.proofs.Calls.{holder-is}
 use Rattle.turns.proofs.Queues.{Right, Seats}
+use Rattle.turns.proofs.Traces.{left-four}
 use Rattle.turns.proofs.Turning.{called, line-left, so-seat}
 use Rattle.turns.specs.Mixed.{bench, held}
 use Rattle.turns.specs.Turned.{turnedOf}
 use Rattle.turns.specs.Turns.{Ask, Give, Queue, TurnCall, TurnOut, givenBack, heldBy, holder, isIn, numbersOf, passedOn, queueOf, turnCall, turnOut}
 use Rattle.turns.specs.declared.TurnRecord.{TurnRecord}
 use Rattle.turns.specs.declared.Turned.{Turned}
-use Rattle.rehearsal.proofs.Asking.{holder-left, numbers-left}
+use Rattle.rehearsal.proofs.Asking.{holder-left}
 
 -- ---- the seats of a line
 
@@ -64,7 +65,7 @@ closes-so b b′ d s t g n x F en ex =
     let r : Tally = rowIn (d .rows) s in
     let o : TurnOut = turnCall (numbersOf (d .turn)) (Give s) in
     let p : x .answer .holder ≡ leaves (held (o .says)) = ap (λ (y : Turned). y .answer .holder) ex ∙ holder-left (o .says) in
-    let l : numbersOf (x .turn) ≡ o .left = ap (λ (y : Turned). numbersOf (y .turn)) ex ∙ numbers-left (d .turn) (Give s) in
+    let l : numbersOf (x .turn) ≡ o .left = ap (λ (y : Turned). numbersOf (y .turn)) ex ∙ left-four (d .turn) (Give s) in
     let m : n ≡ cond (gotThrough (twoCalls b (numbersOf (d .turn)) s t r .0)) (oneCommit r) r = en ∙ ap (λ (z : Bool). cond z (oneCommit r) r) (F .says) in
     let w : b′ ≡ twoCalls b (numbersOf (d .turn)) s t r .1 .buffers = F .leaves in
     λ i. grantOn t (p i) (hall (bench (w i) (l i)) (d .since) (set (d .rows) (s - 1) (m i)))

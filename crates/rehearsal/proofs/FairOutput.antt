@@ -10,6 +10,7 @@ use borrow.Author.Tests.{ltb-false, ltb-true}
 use lib.Dec.{ltb}
 use lib.ListN.{List·getD-map, getD, length, length-map}
 use Rattle.block.specs.Lists.{All}
+use Rattle.laws.proofs.All.{All-map}
 use Rattle.rehearsal.specs.FairOutput.{FairOutcome, FairOutput, FairReport, noReport}
 use Rattle.rehearsal.specs.Outcomes.{canRun, noDay, outcomeOf}
 use Rattle.rehearsal.specs.Output.{reportIn}
@@ -37,12 +38,8 @@ greatest-all : (ws : List ℕ) → All (λ (w : ℕ). w ≤ greatest ws) ws
 greatest-all [] = tt
 greatest-all (w ∷ ws) = go (ltb (greatest ws) w) refl (greatest-all ws)
   where
-    at-most : (m n : ℕ) (l : List ℕ) → m ≤ n → All (λ (x : ℕ). x ≤ m) l → All (λ (x : ℕ). x ≤ n) l
-    at-most m n [] le a = tt
-    at-most m n (x ∷ l) le a = ((let i = a .0 in omega (arith, i, le)), at-most m n l le (a .1))
-
     go : (b : Bool) → ltb (greatest ws) w ≡ b → All (λ (x : ℕ). x ≤ greatest ws) ws → All (λ (x : ℕ). x ≤ cond b w (greatest ws)) (w ∷ ws)
-    go true e a = (omega arith, at-most (greatest ws) w ws (let l = ltb-true (greatest ws) w e in omega (arith, l)) a)
+    go true e a = (omega arith, All-map (λ (x : ℕ). x ≤ greatest ws) (λ (x : ℕ). x ≤ w) ws (λ x i. let l = ltb-true (greatest ws) w e in omega (arith, i, l)) a)
     go false e a = (ltb-false (greatest ws) w e, a)
 
 reports-are : (rows : List Row) → map reportOf rows ≡ map reportIn (map tallyOf rows)

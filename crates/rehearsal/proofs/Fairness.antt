@@ -54,7 +54,7 @@ module _ (l : List Setting) where
 
 -- ---- rows
 
-all-get : {A : Type 0} (P : A → Type 0) (l : List A) (i : ℕ) (d : A) → All P l → i < length l → P (getD l i d)
+pub all-get : {A : Type 0} (P : A → Type 0) (l : List A) (i : ℕ) (d : A) → All P l → i < length l → P (getD l i d)
 all-get P [] i d a h = absurd (omega arith)
 all-get P (x ∷ l) zero d a h = a .0
 all-get P (x ∷ l) (suc i) d a h = all-get P l i d (a .1) (omega arith)

@@ -1,11 +1,12 @@
 -- The laws of a step and of a day: a step is the holder and four asks, and what is left of the day gives the whole.
 -- Assumes nothing.
-use Prim.Native.Nat.{_*_, _+_, _-_, _<_, _≤_, suc, zero, ℕ}
-use mathlib.Core.List.{List, [], _∷_}
+use Prim.Native.Nat.{_*_, _+_, _-_, _<_, _≤_, suc, ℕ}
+use mathlib.Core.List.{List, []}
 use mathlib.Core.Path.{_∙_, _≡_, ap, refl, subst, sym}
 use native.Mathlib.Omega.{arith}
-use lib.ListN.{getD, length}
+use lib.ListN.{length}
 use Rattle.block.specs.Lists.{All}
+use Rattle.laws.proofs.All.{All-getD, All-map}
 use Rattle.laws.proofs.Rows.{replicate-any}
 use Rattle.model.specs.Calls.{Buffers}
 use Rattle.rehearsal.specs.Desk.{Planned, Sane, freshDay, hallIn}
@@ -15,6 +16,7 @@ use Rattle.rehearsal.specs.declared.Setting.{Setting}
 use Rattle.rehearsal.specs.declared.Tally.{Tally}
 use Rattle.turns.specs.Turns.{holder, queueOf}
 use Rattle.rehearsal.proofs.Closing.{sane-asking, sane-finishing, sane-more}
+use Rattle.rehearsal.proofs.Fairness.{all-get}
 
 module _ (l : List Setting) (t : ℕ) where
   pub step-is : (w w₀ w₁ w₂ w₃ w₄ : Hall) → w₀ ≡ finishingOn l t (holder (queueOf (w .bench .turn))) w → w₁ ≡ askingOn l t 1 w₀ → w₂ ≡ askingOn l t 2 w₁ → w₃ ≡ askingOn l t 3 w₂
@@ -78,14 +80,7 @@ module _ (l : List Setting) where
 
 -- sensible settings of four seats
 pub planned : (l : List Setting) → length l ≡ 4 → All Sensible l → Planned l
-planned l four A = record { asks = λ k lo hi. low l (k - 1) A (omega (arith, four)); ends = λ k. high l (k - 1) A }
-  where
-    low : (l : List Setting) (i : ℕ) → All Sensible l → i < length l → 1 ≤ getD l i noSetting .period
-    low [] i A lt = absurd (omega arith)
-    low (x ∷ l) zero A lt = A .0 .period-low
-    low (x ∷ l) (suc i) A lt = low l i (A .1) (omega arith)
-
-    high : (l : List Setting) (i : ℕ) → All Sensible l → getD l i noSetting .holding ≤ 60
-    high [] i A = omega arith
-    high (x ∷ l) zero A = A .0 .holding-high
-    high (x ∷ l) (suc i) A = high l i (A .1)
+planned l four A = record {
+  asks = λ k lo hi. all-get Sensible l (k - 1) noSetting A (omega (arith, four)) .period-low;
+  ends = λ k. All-getD (λ (x : Setting). x .holding ≤ 60) l (k - 1) noSetting (All-map Sensible (λ (x : Setting). x .holding ≤ 60) l (λ x S. S .holding-high) A) (omega arith);
+}

@@ -64,7 +64,7 @@ turn-made-is (gives κs e) = e
 turn-made-is (takes κs e) = e
 
 -- the record that a call leaves has four numbers
-left-four : (t : TurnRecord) (c : TurnCall) → numbersOf (recordOf (turnCall (numbersOf t) c .left)) ≡ turnCall (numbersOf t) c .left
+pub left-four : (t : TurnRecord) (c : TurnCall) → numbersOf (recordOf (turnCall (numbersOf t) c .left)) ≡ turnCall (numbersOf t) c .left
 unfolding turnCall
 left-four t c = go (firstOf (turnConditions (numbersOf t) c))
   where

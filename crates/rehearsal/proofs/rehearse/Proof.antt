@@ -2,7 +2,7 @@
 -- back one after the other; then the core is called. All that the proof knows of the two functions called is that they meet their contracts.
 -- Assumes nothing.
 use mathlib.Core.Path.{_∙_, _≡_, ap, refl, sym}
-use mathlib.Core.Bool.{Bool, false, not, true}
+use mathlib.Core.Bool.{not}
 use Prim.Native.Nat.{ℕ, _<_, _^_}
 use native.Mathlib.Omega.{arith}
 use mathlib.Core.List.{List, [], _∷_}
@@ -44,6 +44,7 @@ use denote.Exit.{yes}
 use denote.Triple.Statement.{Contract, Triple}
 use denote.Triple.Call.{calls-at}
 use denote.Triple.Clauses.{ensured, lasts}
+use Rattle.block.proofs.Says.{is-true}
 use Rattle.rehearsal.specs.Outcomes.{noDay, outcomeOf}
 use Rattle.rehearsal.specs.Rehearsal.{noSetting}
 use Rattle.rehearsal.specs.declared.Outcome.{Outcome}
@@ -74,15 +75,11 @@ within : (n i : ℕ) → n ≡ 4 → i < 4 → i < n
 within n i e l = omega (arith, e, l)
 
 -- the two ways of the test
-so : (b : Bool) → T b → b ≡ true
-so true t = refl
-so false t = absurd t
-
 is-four : (n : ℕ) → T (not (not (eqb n 4))) → n ≡ 4
-is-four n t = eqb-true n 4 (not-false (eqb n 4) (not-true (not (eqb n 4)) (so (not (not (eqb n 4))) t)))
+is-four n t = eqb-true n 4 (not-false (eqb n 4) (not-true (not (eqb n 4)) (is-true (not (not (eqb n 4))) t)))
 
 isn't-four : (n : ℕ) → T (not (eqb n 4)) → n ≡ 4 → ⊥
-isn't-four n t = eqb-false n 4 (not-true (eqb n 4) (so (not (eqb n 4)) t))
+isn't-four n t = eqb-false n 4 (not-true (eqb n 4) (is-true (not (eqb n 4)) t))
 
 module _ {M : Type 1} (𝓤 : URA M) (H : Heap 𝓤) (A : Atoms 𝓤) (mem : Memory → SProp 𝓤) (run : Routine → Fun 𝓤) where
   abbrev Core : Contract 𝓤
