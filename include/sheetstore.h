@@ -20,7 +20,7 @@ extern "C" {
 #define SHEETS_RECORD_LEN 512
 
 /* Why a call was refused, numbered as in the order's papers; 0 is none. A call answers the first that holds, 14 checked right
- * after 3 and 15 right after 7. */
+ * after 3, 15 and 16 right after 7. */
 enum {
     SHEETS_REFUSED_STORE_LENGTH = 1,
     SHEETS_REFUSED_STORE_CHECK = 2,
@@ -35,8 +35,9 @@ enum {
     SHEETS_REFUSED_OUT_OF_DATE = 11,
     SHEETS_REFUSED_CONFLICT = 12,
     SHEETS_REFUSED_NO_ROOM = 13,
-    SHEETS_REFUSED_TAIL = 14,       /* a commit on a store that has a tail */
-    SHEETS_REFUSED_NOT_HOLDING = 15 /* a commit in turn by a seat that does not hold the turn */
+    SHEETS_REFUSED_TAIL = 14,        /* a commit or a release on a store that has a tail */
+    SHEETS_REFUSED_NOT_HOLDING = 15, /* a commit in turn by a seat that does not hold the turn */
+    SHEETS_REFUSED_RELEASED = 16     /* a release of a revision that is released already */
 };
 
 /* refusal 0: done; value: a commit's revision, the holder that a call on a turn record leaves, else 0 */
@@ -90,16 +91,18 @@ sheets_answer sheets_copy(const uint8_t *store, size_t store_len, uint8_t *copy,
 sheets_answer sheets_move(const uint8_t *store, size_t store_len, uint8_t *copy, size_t copy_len, uint32_t from, uint32_t to);
 
 /* A commit leaves the blocks in use as they are. It writes its content blocks in rising order, then its commit block. Two stores
- * of one size that began fresh and have no tail are equal byte by byte exactly if their histories are the same. */
+ * of one size that began fresh and have no tail are equal byte by byte exactly if their histories are the same, with the same
+ * releases in the same places. */
 sheets_answer sheets_commit(uint8_t *store, size_t store_len, uint8_t *copy, size_t copy_len, uint32_t stamp, uint32_t mask);
-/* Where contact is lost within a commit, the store ends in a tail: up to 32 content blocks of the next revision and at most one
- * block with a wrong check. Every call but a commit works then, as if the tail were zero blocks; a commit, cut or in turn too, is
- * refused with 14. Clear writes zero blocks there, from the highest block down; without a tail it changes nothing. Only 1, 2 and 3
- * refuse it.
+/* Where contact is lost within a commit or a release, the store ends in a tail: up to 32 content blocks of the next revision and
+ * at most one block with a wrong check. Every call but a commit and a release works then, as if the tail were zero blocks; a
+ * release and a commit, cut or in turn too, are refused with 14. Clear writes zero blocks there, from the highest block down;
+ * without a tail it changes nothing. Only 1, 2 and 3 refuse it.
  *
- * Wherever the power fails within a commit or a clear, and the blocks written before are new, the block being written is old, new
- * or has a wrong check, and those due later are old, the store found is accepted. Its history is the one before or the one with
- * the whole commit, the latter exactly if the commit block is new. The working copy is outside of this. */
+ * Wherever the power fails within a commit, a release or a clear, and the blocks written before are new, the block being written
+ * is old, new or has a wrong check, and those due later are old, the store found is accepted. Its history is the one before, or
+ * the one with the whole commit or the release, the latter exactly if the commit block or the release's block is new. The working
+ * copy is outside of this. */
 sheets_answer sheets_clear(uint8_t *store, size_t store_len);
 /* Commit and clear that stop after n block writes, to try what a cut leaves. They are refused as the usual calls are, whatever n
  * is. A commit of k content blocks has k + 1 writes, a clear one for each block of the tail: without a tail none, and it is done
@@ -138,11 +141,22 @@ sheets_place sheets_show(const uint8_t *store, size_t store_len, const uint8_t *
 sheets_standing sheets_status(const uint8_t *store, size_t store_len, const uint8_t *copy, size_t copy_len, uint32_t sheet);
 sheets_log_entry sheets_log(const uint8_t *store, size_t store_len, uint32_t revision, uint32_t sheet);
 
+/* What a poolside panel may show. A release of a revision, 1 to the last, writes one block behind those in use. It is no revision
+ * itself, and takes the store alone: the seat is the one that the block names. Releases come in any order of revisions, none
+ * twice: 7 for revision 0, one above the last or a seat that is not 1 to 4, then 16 for a revision that is released already, then
+ * 13 if there is no block left. Read, show, status and log find what the commits alone have left. */
+sheets_answer sheets_release(uint8_t *store, size_t store_len, uint32_t revision, uint32_t seat, uint32_t stamp);
+/* A panel's reading: what sheets_read gives at the greatest released revision up to this one, whichever was released last. 7 for a
+ * revision above the last or a sheet above 31, 8 if there is no such release or the sheet is absent there, even where an older
+ * release has it. */
+sheets_place sheets_panel_read(const uint8_t *store, size_t store_len, uint32_t revision, uint32_t sheet);
+
 /* A list of calls. The script has a record of 512 bytes for each call, copies are the working copies of seats 1 to 4 side by
  * side, 67,584 bytes, and answers has room for a record of 512 bytes for each call. The five buffers are checked once. Refused
  * (1 to 6 as for any call, the copies in order; 7 for a copy of another seat, a bad record or fewer answers than calls), nothing
- * is changed. A script may begin on a store with a tail, and a cut commit (kind 14) may leave one: commits are refused with 14
- * until one of its calls clears it, kind 13, or 15 with n enough. The records are laid out in docs/LAYOUT.md. */
+ * is changed. A script may begin on a store with a tail, and a cut commit (kind 14) may leave one: commits and releases (kind 20)
+ * are refused with 14 until one of its calls clears it, kind 13, or 15 with n enough. A panel's reading is kind 21. The records
+ * are laid out in docs/LAYOUT.md. */
 sheets_answer sheets_replay(const uint8_t *script, size_t script_len, uint8_t *store, size_t store_len, uint8_t *copies,
                             size_t copies_len, uint8_t *answers, size_t answers_len);
 

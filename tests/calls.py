@@ -4,10 +4,11 @@
 calls.py [--seed N] [--lists N] [--only K]
 
 For each list a fresh store of 2 to 4,096 blocks, four fresh copies and a free turn record; answers, every byte of every buffer, the record, and reads are compared.
-Cut commits and clearings, calls on the record and commits through it are among the calls, and in half of the lists the store is found with a tail now and then, as a
-power cut leaves it. Then damage, with and without a tail: bytes of the buffers changed, resealed or not, blocks exchanged, lengths wrong; the first refusal that
-holds by tests/model/accept.py must come and nothing may change, and where the buffers are accepted all the same, the call must do as the model does. How often the
-calls met what W2, W3, W5, W6 and W7 of document 02 are about is printed, and that some of it never came is a failure.
+Cut commits and clearings, calls on the record and commits through it, releases and panel readings are among the calls, and in half of the lists the store is found
+with a tail now and then, as a power cut leaves it. Then damage, with and without a tail: bytes of the buffers changed, resealed or not, blocks exchanged or made
+release blocks, lengths wrong; the first refusal that holds by tests/model/accept.py must come and nothing may change, and where the buffers are accepted all the
+same, the call must do as the model does. How often the calls met what W2, W3, W5, W6, W7 and W9 of document 02 are about is printed, and that some of it never came
+is a failure.
 At the first list that fails its seed and number are printed: `--seed N --only K` runs that list alone.
 """
 import pathlib, random, sys
@@ -18,8 +19,9 @@ import accept, layout, lists, sheets, turns
 from engine import Engine
 
 CHANGING = ('add', 'edit', 'delete', 'copy', 'move', 'commit', 'commit_cut', 'turn_commit', 'update', 'revert')
-STORE_ONLY = ('read', 'log', 'clear', 'clear_cut')
+STORE_ONLY = lists.STORE_ONLY
 COMMITS = ('commit', 'commit_cut', 'turn_commit')
+ADDING = (*COMMITS, 'release')  # to the log
 ALL = 0xffffffff
 calls = failed = 0
 
@@ -32,23 +34,32 @@ def fail(what):
 
 
 def played(model, store, some):
-    """The model's answers to these calls, and the store after them. The store has the model's history, in any order."""
+    """The model's answers to these calls, and the store after them. The store has the model's log, in any order."""
     answers = []
     for c in some:
-        commit = model.asked(*c[1:4], c[0] == 'turn_commit')[1] if c[0] in COMMITS else None
+        item = model.adds(c)[1]
         answers.append(lists.made(model, c))
         if c[0] in ('clear', 'clear_cut'):
             store = layout.cleared(store, *c[2:])
-        elif commit:
-            store = layout.appended(store, commit, *c[4:])
+        elif item:
+            store = layout.appended(store, item, *(c[4:] if c[0] == 'commit_cut' else ()))
     return answers, store
 
 
 # ---- the power
 
 def after(model, store, call, n):
-    """The store after n block writes of a commit or a clearing that the model would do."""
-    return layout.cleared(store, n) if call[0] == 'clear' else layout.appended(store, model.asked(*call[1:])[1], n)
+    """The store after n block writes of a commit, a release or a clearing that the model would do."""
+    return layout.cleared(store, n) if call[0] == 'clear' else layout.appended(store, model.adds(call)[1], n)
+
+
+def cut_by(engine, call, store, copy, n):
+    """The engine makes n block writes of a commit or a clearing that would be done, or of a release, of which there is no cut call: it has one write. What it
+    answers."""
+    name, _, *args = call
+    if name != 'release':
+        return engine.call(f'{name}_cut', store, copy, *args, n)
+    return engine.call(name, store, copy, *args) if n else None
 
 
 def due(model, call, n):
@@ -66,15 +77,19 @@ def junk(rng, revision):
     """Blocks with a wrong check by what they are: nearly right ones, and any."""
     commit = layout.commit_block(revision, rng.randint(1, 4), rng.getrandbits(32), [layout.line(i, 1, 1 + i) for i in range(rng.randint(1, 32))])
     half = rng.randrange(1, 508)
+    release = layout.release_block(rng.randint(1, max(1, revision - 1)), rng.randint(1, 4), rng.getrandbits(32))
     blocks = {
         'a commit block, half written': commit[:half] + bytes(512 - half),
+        'a release block, its check not written': release[:508] + bytes(4),
+        'a release block, half written': release[:rng.randrange(1, 7)].ljust(512, b'\0'),
         'zeros with a check': bytes(508) + rng.choice([b'\1\0\0\0', b'\0\0\0\1', rng.randbytes(3) + b'\1']),
         'zeros with a check that is not reduced': bytes(508) + layout.two(65521) * 2,
         'a check that is not reduced': layout.sealed([3])[:508] + layout.two(3 + 65521) + layout.two(3 * 508),
         'ones': b'\xff' * 512,
         'any': rng.randbytes(512),
     }
-    for what, whole in ('commit', commit), ('content', layout.content(revision, rng.randbytes(rng.choice([0, 1, 480])))), ('label', layout.label()):
+    content = layout.content(revision, rng.randbytes(rng.choice([0, 1, 480])))
+    for what, whole in ('commit', commit), ('release', release), ('content', content), ('label', layout.label()):
         at = rng.choice([0, 1, 4, 508, 511, rng.randrange(512)])
         blocks[f'a {what} block with a bit flipped'] = whole[:at] + bytes([whole[at] ^ 1 << rng.randrange(8)]) + whole[at + 1:]
     for kind in (*range(10), 255):
@@ -84,7 +99,7 @@ def junk(rng, revision):
 
 
 def random_tail(rng, model):
-    """The blocks of a tail for a store with the model's history; none if it has no room."""
+    """The blocks of a tail for a store with the model's log; none if it has no room."""
     room, revision = model.blocks - model.used, model.last() + 1
     count = min(room, rng.choice([0, 1, 2, rng.randint(0, 32), 32, 32]))
     tail = [layout.content(revision, rng.choice([b'', b'A', rng.randbytes(480)])) for _ in range(count)]
@@ -100,8 +115,7 @@ def random_tail(rng, model):
 
 
 class Desk:
-    """A store, four copies and a turn record beside the model: a store that has the model's history, in any order, and its tail, and the model's copies and
-    record."""
+    """A store, four copies and a turn record beside the model: a store that has the model's log, in any order, and its tail, and the model's copies and record."""
 
     def __init__(self, engine, model, store):
         self.engine, self.model, self.store, self.laid_out, self.turn = engine, model, bytearray(store), bytes(store), list(model.turn)
@@ -126,14 +140,14 @@ class Desk:
         lists.found(self.model, len(tail))
 
     def power(self, call, n, how, wrong):
-        """The power fails while a commit or a clearing that would be done writes its block number n, which is then old, new, or this block with a wrong check. What
-        is written up to there, and the new block, is what the engine's cut calls write."""
+        """The power fails while a commit, a release or a clearing that would be done writes its block number n, which is then old, new, or this block with a wrong
+        check. What is written up to there, and the new block, is what the engine's cut calls write, or the release."""
         global calls
-        (name, seat, *args), stores = call, []
+        stores = []
         for some in (n, n + 1):
             calls += 1
             store = bytearray(self.store)
-            self.engine.call(f'{name}_cut', store, bytearray(self.copies[seat]), *args, some)
+            cut_by(self.engine, call, store, bytearray(self.copies[call[1]]), some)
             stores.append(bytes(store))
             if store != after(self.model, self.laid_out, call, some):
                 fail(f'{call}, cut after {some} writes, leaves another store')
@@ -157,7 +171,7 @@ class Desk:
             fail(f'{what} leaves {self.turn}, not {self.model.turn}')
         if self.store != self.laid_out:
             fail(f'{what} leaves another store')
-        elif wanted[0] == 'revision' and layout.history_of(self.laid_out) != (self.model.history, self.model.used, 0):
+        elif (wanted[0] == 'revision' or name == 'release') and layout.log_of(self.laid_out) != (self.model.log, self.model.used, self.model.tail):
             fail(f'{what} leaves another history')
         for k, copy in self.copies.items():
             changes = k == seat and name in CHANGING and wanted[0] not in ('no', 'stopped')
@@ -166,20 +180,21 @@ class Desk:
         return wanted
 
     def whole(self):
-        """The store of a desk that was fresh follows from its history alone, but for a tail."""
+        """The store of a desk that was fresh follows from its history, with the releases, alone, but for a tail."""
         size = self.model.used * 512
-        if self.store[:size] != layout.store_bytes(self.model.blocks, self.model.history)[:size]:
+        if self.store[:size] != layout.store_bytes(self.model.blocks, self.model.log)[:size]:
             fail('the calls leave another layout of the history')
 
     def look(self, rng):
-        """Reads at every revision of one sheet, and of every sheet at one; of many revisions a sample."""
+        """Reads, and panel readings, at every revision of one sheet, and of every sheet at one; of many revisions a sample."""
         global calls
         last, sheet, revision = self.model.last(), rng.randrange(32), rng.randint(0, self.model.last())
         revisions = range(last + 1) if last < 40 else rng.sample(range(last + 1), 40)
         for r, i in [(r, sheet) for r in revisions] + [(revision, i) for i in range(32)]:
-            calls += 1
-            if self.engine.read(self.store, r, i) != self.model.call('read', 1, r, i):
-                fail(f'read {r} {i}')
+            for name in ('read', 'panel'):
+                calls += 1
+                if self.engine.call(name, self.store, None, r, i) != self.model.call(name, 1, r, i):
+                    fail(f'{name} {r} {i}')
 
 
 def random_list(engine, rng, number):
@@ -202,7 +217,7 @@ def random_list(engine, rng, number):
 
 
 def fill(desk, rng):
-    """Commits of many sheets by the seats in turn, until one finds no room; then smaller ones, until none does."""
+    """Commits of many sheets by the seats in turn, until one finds no room; then smaller ones, until none does. A release now and then."""
     for most in (32, 4, 1):
         answer = ()
         while answer != ('no', 13):
@@ -213,6 +228,8 @@ def fill(desk, rng):
                 data = bytes([rng.getrandbits(8)]) * rng.choice([1, 7, 480])
                 desk.call('add' if model.seats[seat][sheet] == sheets.EMPTY else 'edit', seat, sheet, data)
             answer = desk.call('commit', seat, rng.getrandbits(32), ALL)
+            if rng.random() < 0.1:
+                desk.call('release', seat, max(0, model.last() - rng.choice([0, 0, 1])), rng.randint(1, 4), rng.getrandbits(32))
 
 
 def entry(rng, last):
@@ -221,8 +238,26 @@ def entry(rng, last):
     return rng.choice([('normal', revision, data), ('added', data), ('deleted', revision), ('copied', (rng.choice([0, 1, 2, 3, 5, 31]), revision), data)])
 
 
+def put_release(rng, store, last):
+    """Writes a release block into the store: behind the blocks that aren't zero, or over any of them. Whether it stands there is counted."""
+    blocks = layout.filled_blocks(store)
+    number = min(len(store) // 512 - 1, rng.choice([len(blocks), len(blocks), rng.randrange(len(blocks) + 1)]))
+    revision = min(65535, max(0, rng.choice([last, rng.randint(0, last + 1), rng.randint(0, last + 1), 256 + last])))
+    block = layout.release_block(revision, rng.choice([1, 2, 3, 4, 4, 0, 5, 255]), rng.getrandbits(32))
+    if rng.random() < 0.2:
+        at = rng.choice([1, 2, 3, 7, 12, 15, 16, 507])
+        block = layout.sealed(block[:at] + b'\1' + block[at + 1:508])
+    store[number * 512:number * 512 + 512] = block
+    if number and blocks[number - 1][:1] == b'\2':
+        lists.seen['a release block put behind a content block'] += 1
+    lists.seen['a release block put where it ' + ('does not' if accept.refusal(bytes(store)) else 'stands')] += 1
+
+
 def damage(rng, store, copy, last):
     """Changes a byte or a block of one of the buffers, or its length, and mostly seals the block again."""
+    if rng.random() < 0.1 and len(store) >= 1024 and len(store) % 512 == 0:
+        put_release(rng, store, last)
+        return
     if rng.random() < 0.2:
         at = rng.choice([1, 2, 3, 4, 6, 8, 32]) * 512
         copy[at:at + 512] = layout.entry_block(entry(rng, last))
@@ -267,7 +302,10 @@ def damaged(engine, rng, desk):
             damage(rng, store, copy, desk.model.last())
         ready = sum(1 << i for i in lists.current(desk.model, seat))
         commit, n = (seat, rng.getrandbits(32), rng.choice([ALL, ready or ALL])), rng.choice([0, 1, 2, 33])
-        some = [('commit', *commit), *[('commit_cut', *commit, n), ('turn_commit', *commit)] * 2, ('clear_cut', seat, n)]
+        last = desk.model.last()
+        of_release = ('release', seat, rng.choice([last, rng.randint(0, last + 1), *sheets.released(desk.model.log)[:2]]), rng.randint(0, 4), rng.getrandbits(32))
+        some = [('commit', *commit), *[('commit_cut', *commit, n), ('turn_commit', *commit)] * 2, ('clear_cut', seat, n), *[of_release] * 2,
+                ('panel', seat, rng.randint(0, last), rng.choice([0, 1, 2, 3, 5, 31]))]
         name, _, *args = lists.random_call(rng, desk.model) if rng.random() < 0.5 else rng.choice(some)
         turn = rng.choice([[seat, seat % 4 + 1, 0, 0], [rng.randint(0, 5) for _ in range(4)], desk.turn])
         on_buffers(engine, f'{name} {args} with {turn} on damaged buffers', name, args, store, copy, turn)
@@ -279,10 +317,10 @@ def on_buffers(engine, what, name, args, store, copy, turn=turns.FREE):
     global calls
     calls += 1
     before = bytes(store), bytes(copy)
-    number = accept.refusal(store, None if name in STORE_ONLY else copy, name in COMMITS)
-    if number == 14:
+    number = accept.refusal(store, None if name in STORE_ONLY else copy, name in ADDING)
+    if number == 14 and name in COMMITS:
         lists.seen[f'14 before {accept.refusal(store, copy)}'] += 1
-    if number and name in ('commit_cut', 'clear_cut', 'turn_commit'):
+    if number and name in ('commit_cut', 'clear_cut', 'turn_commit', 'release', 'panel'):
         lists.seen[f'{name} gives {number}'] += 1
         lists.seen[f'{name} refused at 0'] += args[-1] == 0
     got = engine.call(name, store, copy, *args, turn=turn)
@@ -311,7 +349,7 @@ def on_record(engine, what, name, args, turn):
 def accepted(what, name, args, got, before, store, copy, turn):
     """A call on buffers of any origin that are accepted."""
     model = sheets.Machine(len(store) // 512)
-    model.history, model.used, model.tail = layout.history_of(before[0])
+    model.log, model.used, model.tail = layout.log_of(before[0])
     model.turn, seat = tuple(turn), 1
     if name not in STORE_ONLY:
         seat = before[1][1]

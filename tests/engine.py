@@ -34,8 +34,8 @@ class LogEntry(ctypes.Structure):
     _fields_ = [(n, u32) for n in ('refusal', 'seat', 'stamp', 'changes', 'action', 'source_sheet', 'source_revision')]
 
 
-RESULTS = dict(read=Place, show=Place, status=Standing, log=LogEntry, commit_cut=CutAnswer, clear_cut=CutAnswer)  # of the other calls Answer
-NAMES = dict(ask='turn_ask', give='turn_give', take='turn_take', turn_commit='commit_in_turn')  # the other calls have their names in C too
+RESULTS = dict(read=Place, show=Place, panel=Place, status=Standing, log=LogEntry, commit_cut=CutAnswer, clear_cut=CutAnswer)  # of the other calls Answer
+NAMES = dict(ask='turn_ask', give='turn_give', take='turn_take', turn_commit='commit_in_turn', panel='panel_read')  # the other calls have their names in C too
 
 
 def build():
@@ -92,15 +92,18 @@ class Engine:
         return self._answer('create_copy', copy, seat)
 
     def part(self, name, store, copy, *args):
-        """Where read or show finds the bytes: ('part', 'store', place, length, W3's number), or ('part', 'copy', place, length), which has none."""
-        r = self._call(name, store, *(() if name == 'read' else (copy,)), *args)
+        """Where read, panel reading or show finds the bytes: ('part', 'store', place, length, W3's number), or ('part', 'copy', place, length), which has none."""
+        r = self._call(name, store, *((copy,) if name == 'show' else ()), *args)
         if r.refusal:
             return ('no', r.refusal)
-        assert (r.buffer, r.revision > 0) in ((0, True), (1, False))
+        assert (r.buffer, r.revision > 0) in ((0, True), (1, False)) and (name == 'show' or r.buffer == 0)
         return ('part', 'copy', r.start, r.len) if r.buffer else ('part', 'store', r.start, r.len, r.revision)
 
     def read(self, store, revision, sheet):
         return self._bytes('read', store, None, revision, sheet)
+
+    def panel(self, store, revision, sheet):
+        return self._bytes('panel', store, None, revision, sheet)
 
     def show(self, store, copy, sheet):
         return self._bytes('show', store, copy, sheet)
@@ -130,6 +133,9 @@ class Engine:
     def clear_cut(self, store, n):
         return self._answer('clear_cut', store, n)
 
+    def release(self, store, revision, seat, stamp):
+        return self._answer('release', store, revision, seat, stamp)
+
     def replay(self, script, store, copies, answers):
         return self._answer('replay', script, store, copies, answers)
 
@@ -146,7 +152,7 @@ class Engine:
             return self.on_record(name, turn, *args)
         if name == 'turn_commit':  # C takes the record by value
             return self._answer(name, store, copy, Turn(*turn), *args)
-        if name in ('read', 'log', 'clear', 'clear_cut'):
+        if name in ('read', 'log', 'clear', 'clear_cut', 'release', 'panel'):
             return getattr(self, name)(store, *args)
         if name in ('show', 'status'):
             return getattr(self, name)(store, copy, *args)

@@ -2,8 +2,8 @@
 """Computes the machine of crates/model and the turn record of crates/turns by the prover on whole lists of calls, and holds them to lists made elsewhere.
 
 lists.py FILE        every list of a file of lists, one JSON object a line: see tests/vectors/README.md
-lists.py --random N [SEED]   a list of N random calls by four seats, and N / 4 more, of which half are on the turn record or through it, with the answers and the
-                     end of tests/model; it begins on a fresh store with a tail
+lists.py --random N [SEED]   a list of N random calls by four seats, and N / 4 more, of which half are on the turn record or through it, and N / 4 more, of which half
+                     are releases and panel readings, with the answers and the end of tests/model; it begins on a fresh store with a tail
 
 For each list two theorems by `refl` are written to target/lists: the answers are those of the list, and the machine's
 state and the record at the end are the list's. A power cut is no call: a list that has some is cut there, and each part
@@ -16,15 +16,18 @@ sys.path.insert(0, str(ROOT / 'tests' / 'model'))
 import sheets
 
 NAMES = dict(add='Add', edit='Edit', delete='Delete', copy='Copy', move='Move', commit='Commits', update='Update',
-             revert='Revert', read='Read', show='Show', status='Status', log='Log', clear='Clears', commit_cut='CommitsCut', clear_cut='ClearsCut')
+             revert='Revert', read='Read', show='Show', status='Status', log='Log', clear='Clears', commit_cut='CommitsCut', clear_cut='ClearsCut',
+             release='Release', panel='Panel')
 ON_RECORD = dict(ask='Ask', give='Give', take='TakeBack')
+STORE_ONLY = ('read', 'log', 'clear', 'clear_cut', 'release', 'panel')
 HEAD = '''use mathlib.Core.Path.{_≡_, refl}
 use mathlib.Core.List.{List, [], _∷_}
 use lib.ListN.{replicate}
 use Rattle.model.specs.History.{tree, Change, nothing, add, change, delete, copy, Commit}
 use Rattle.model.specs.Entry.{Entry, empty, normal, added, deleted, copied}
+use Rattle.model.specs.Log.{released}
 use Rattle.model.specs.Machine.{State, fresh}
-use Rattle.model.specs.Machine.{Add, Edit, Delete, Copy, Move, Commits, Update, Revert, Read, Show, Status, Log, Clears, CommitsCut, ClearsCut}
+use Rattle.model.specs.Machine.{Add, Edit, Delete, Copy, Move, Commits, Update, Revert, Read, Show, Status, Log, Clears, CommitsCut, ClearsCut, Release, Panel}
 use Rattle.model.specs.Machine.{Answer, refused, done, revision, stopped, bytes, status, logged}
 use Rattle.model.proofs.Play.{_does_}
 use Rattle.turns.specs.Turns.{Ask, Give, TakeBack, noTurn, heldBy, free, queueOf, inForm, turnCall}
@@ -84,15 +87,23 @@ def entry(e):
     }[e[0]]()
 
 
-def state(n, used, tail, history, seats, turn):
+def marks(log):
+    """The releases of a log, each with the last revision before it."""
+    for n, item in enumerate(log):
+        if isinstance(item, sheets.Release):
+            yield f'record {{ after = {len(sheets.commits_of(log[:n]))}; mark = released {item.revision} {item.seat} {item.stamp} }}'
+
+
+def state(n, used, tail, log, seats, turn):
+    history = sheets.commits_of(log)
     commits = cons(f'record {{ seat = {seat}; stamp = {stamp}; changes = {cons(change(cs.get(i)) for i in range(32))} }}' for seat, stamp, cs in history)
     rows = cons(f'({cons(map(entry, seats[k]))})' for k in (1, 2, 3, 4))
-    return f'table (record {{ blocks = {n}; used = {used}; tail = {tail}; history = {commits}; seats = {rows} }}) ({cons(map(str, turn))})'
+    machine = f'blocks = {n}; used = {used}; tail = {tail}; history = {commits}; marks = {cons(marks(log))}; seats = {rows}'
+    return f'table (record {{ {machine} }}) ({cons(map(str, turn))})'
 
 
 def theorems(n, calls, answers, *end, start=None):
-    """The theorems of a list: blocks, calls, answers, and at the end used blocks, those of the tail, history, entries and the record. It starts fresh, or as
-    given."""
+    """The theorems of a list: blocks, calls, answers, and at the end used blocks, those of the tail, log, entries and the record. It starts fresh, or as given."""
     unfolds = 'unfolding tree queueOf inForm turnCall'
     return (HEAD + f'abbrev calls : List AnyCall\ncalls = {cons(call(*c) for c in calls)}\n\n'
             f'abbrev start : Table\nstart = {state(n, *start) if start else f"table (fresh {n}) free"}\n\n'
@@ -101,8 +112,8 @@ def theorems(n, calls, answers, *end, start=None):
 
 
 def stands(m):
-    """What stands in a machine, apart from it: used blocks, those of the tail, history, entries and the record."""
-    return m.used, m.tail, list(m.history), {k: list(entries) for k, entries in m.seats.items()}, m.turn
+    """What stands in a machine, apart from it: used blocks, those of the tail, log, entries and the record."""
+    return m.used, m.tail, list(m.log), {k: list(entries) for k, entries in m.seats.items()}, m.turn
 
 
 def parts(n, calls, answers, *end):
@@ -122,14 +133,14 @@ def parts(n, calls, answers, *end):
 
 
 def from_json(l):
-    """A list of a file in the model's terms: blocks, calls, answers, and at the end used blocks, those of the tail, history, entries and the record."""
+    """A list of a file in the model's terms: blocks, calls, answers, and at the end used blocks, those of the tail, log, entries and the record."""
     tuples = lambda x: tuple(map(tuples, x)) if isinstance(x, list) else x
     hexed = lambda x: None if x is None else bytes.fromhex(x)
 
     def args(c):
         if c[0] == 'power':  # the call, the number of its write, and how that block is found
             return ('power', 1, args(c[1]), *c[2:])
-        seat, rest = (1, c[1:]) if c[0] in ('read', 'log', 'clear', 'clear_cut', *ON_RECORD) else (c[1], c[2:])
+        seat, rest = (1, c[1:]) if c[0] in STORE_ONLY or c[0] in ON_RECORD else (c[1], c[2:])
         return (c[0], seat, *(hexed(x) if isinstance(x, str) else x for x in rest))
 
     def said(a):
@@ -142,13 +153,18 @@ def from_json(l):
         b = hexed(e['data'])
         return [('normal', e['base'], b), ('added', b), ('deleted', e['base']), ('copied', tuples(e['source']), b)][e['state'] - 1]
 
+    def item_of(x):
+        if 'release' in x:
+            return sheets.Release(*x['release'])
+        c = x['commit']
+        return c['seat'], c['stamp'], {int(i): change_of(y) for i, y in c['changes'].items()}
+
     end, seats = l['end'], {k: [sheets.EMPTY] * 32 for k in (1, 2, 3, 4)}
-    commits = [item['commit'] for item in end['history']['items']]
-    history = [(c['seat'], c['stamp'], {int(i): change_of(x) for i, x in c['changes'].items()}) for c in commits]
+    log = [item_of(x) for x in end['history']['items']]
     for k, entries in end['entries'].items():
         for i, e in entries.items():
             seats[int(k)][int(i)] = entry_of(e)
-    return l['n'], [args(c) for c in l['calls']], [said(a) for a in l['answers']], end['used'], end['tail'], history, seats, tuples(end['turn'])
+    return l['n'], [args(c) for c in l['calls']], [said(a) for a in l['answers']], end['used'], end['tail'], log, seats, tuples(end['turn'])
 
 
 # ---- random calls
@@ -158,6 +174,8 @@ CLEARS, BESIDE, TAILS, FIRST = 'W5, clears and 14', 'W5, beside a tail', 'W5, ta
 CUTS, NO_ROOM, DAMAGED = 'W6, cut calls', 'W6, no room', 'W6, cut calls on damaged buffers'
 TURNS = RECORD, THROUGH, TURN_NO_ROOM, TURN_DAMAGED = ('W7, calls on the record', 'W7, commits through it', 'W7, no room',
                                                        'W7, commits through it on damaged buffers')
+BEFORE_ALL, RELEASES, PANELS = 'W9, before a release', 'W9, releases', 'W9, panel readings'
+RELEASE_NO_ROOM, RELEASE_DAMAGED = 'W9, no room', 'W9, on damaged buffers'
 COUNTED = {
     W2: ('modified that agree', 'added that agree', 'copied that agree', 'empty that agree', 'that agree with an older tree alone', 'that agree beside a conflict',
          'conflicts equal to the last tree alone', 'conflicts of equal length', 'conflicts deleted by both'),
@@ -166,8 +184,8 @@ COUNTED = {
          'above the base of a normal entry', 'above the base of a deleted entry', 'below the base of an entry', 'of an add', 'of a change', 'of a delete',
          'of a copy', 'of a sheet that came back', 'below a copy from the sheet'),
     CLEARS: ('clears of a tail', 'clears without a tail', 'commits refused with 14'),
-    BESIDE: (*(f'{name} done' for name in NAMES if name not in ('commit', 'clear', 'commit_cut', 'clear_cut')), 'commit that goes through without it',
-             'commit that is refused without it'),
+    BESIDE: (*(f'{name} done' for name in NAMES if name not in ('commit', 'clear', 'commit_cut', 'clear_cut', 'release')), 'commit that goes through without it',
+             'commit that is refused without it', 'release that goes through without it', 'release that is refused without it'),
     TAILS: ('content alone', 'junk alone', 'content and junk', '32 contents', '32 contents and junk', 'behind the label', 'up to the last block'),
     FIRST: ('14 before 4', '14 before 5', '14 before 6'),
     CUTS: ('commits stopped at 0', 'commits stopped among the contents', 'commits stopped before the commit block', 'commits of no content stopped',
@@ -184,10 +202,23 @@ COUNTED = {
               '15 for a seat not in line', '15 where a commit would be done', '15 where a commit gives 10', '15 where a commit gives 11'),
     TURN_NO_ROOM: ('through, refused with 13', '15 where a commit gives 13'),
     TURN_DAMAGED: tuple(f'turn_commit gives {n}' for n in (1, 2, 3, 4, 5, 6, 7, 14, 15)),
+    BEFORE_ALL: ('panel: 8 without a release',),
+    RELEASES: ('releases of the last revision', 'releases of an older one', 'releases of one below a released one', 'releases behind a commit',
+               'releases behind a release', 'commits behind a release', *(f'releases refused with {n}' for n in (7, 14, 16)), '7 for revision 0',
+               '7 for a revision after the last', '7 for a revision that is one in 16 bits', '7 for the seat', '7 for a seat that is one in 8 bits',
+               'release: 14 before 7', 'release: 14 before 16', 'release: 7 before 16'),
+    PANELS: ('panels at a released revision', 'panels above it', 'panels of one that was not released last', 'panels of other bytes than read',
+             'panels of a sheet that tree R lacks', 'panels with a number below what they read', 'panel: 8 before every released revision',
+             'panel: 8 at revision 0', 'panel: 8 where read finds the sheet', 'panel: 8 where an older released tree has it', 'panel: 7 for the revision',
+             'panel: 7 for the sheet'),
+    RELEASE_NO_ROOM: ('releases refused with 13', 'release: 7 before 13', 'release: 16 before 13', 'commits with no room beside the releases'),
+    RELEASE_DAMAGED: (*(f'release gives {n}' for n in (1, 2, 3, 7, 14, 16)), *(f'panel gives {n}' for n in (1, 2, 3, 7, 8)), 'a release block put where it stands',
+                      'a release block put where it does not', 'a release block put behind a content block'),
 }
 seen = collections.Counter()
 since = weakref.WeakKeyDictionary()  # machines on whose store a commit stopped and left blocks, and whether these were cleared since
-IN_LIST, THEN, FOUND = (W2, W3, CLEARS, CUTS), (RECORD, THROUGH), 3  # what the prover's random list meets, and the blocks of the tail that it begins with
+IN_LIST, THEN, AT_LAST = (W2, W3, CLEARS, CUTS, BEFORE_ALL), (RECORD, THROUGH), (RELEASES, PANELS)  # what the prover's random list meets
+FOUND = 3  # the blocks of the tail that it begins with
 
 
 def met(m, seat, mask, revision):
@@ -251,7 +282,7 @@ def told(m, name, seat, args, answer):
 def twin(m):
     """The same machine, apart."""
     other = sheets.Machine(m.blocks)
-    other.history, other.used, other.tail, other.turn = list(m.history), m.used, m.tail, m.turn
+    other.log, other.used, other.tail, other.turn = list(m.log), m.used, m.tail, m.turn
     other.seats = {k: list(entries) for k, entries in m.seats.items()}
     return other
 
@@ -311,6 +342,55 @@ def through(m, seat, bare, answer):
         yield '15 where a commit would be done' if bare[0] == 'revision' else f'15 where a commit gives {bare[1]}'
 
 
+def releasing(m, revision, seat, stamp):
+    """What of W9 a release meets."""
+    done, last = sheets.released(m.log), m.last()
+    lines = (14, m.tail), (7, not 1 <= revision <= last or not 1 <= seat <= 4), (16, revision in done), (13, m.used + 1 > m.blocks)
+    holds = [n for n, there in lines if there]
+    yield from (f'release: {holds[0]} before {n}' for n in holds[1:])
+    if holds:
+        yield f'releases refused with {holds[0]}'
+    if holds[:1] == [7]:
+        faults = revision == 0, revision > last, revision > last and 1 <= revision % 65536 <= last, not 1 <= seat <= 4, seat > 4 and 1 <= seat % 256 <= 4
+        names = 'revision 0', 'a revision after the last', 'a revision that is one in 16 bits', 'the seat', 'a seat that is one in 8 bits'
+        yield from (f'7 for {what}' for what, there in zip(names, faults) if there)
+    if not holds:
+        yield 'releases of the last revision' if revision == last else 'releases of an older one'
+        yield 'releases behind a release' if isinstance(m.log[-1], sheets.Release) else 'releases behind a commit'
+        if revision < max(done, default=0):
+            yield 'releases of one below a released one'
+
+
+def on_panel(m, revision, sheet, answer):
+    """What of W9 a panel reading meets."""
+    done = sheets.released(m.log)
+    if answer == ('no', 7):
+        yield 'panel: 7 for the sheet' if sheet > 31 else 'panel: 7 for the revision'
+        return
+    shown, tree = [r for r in done if r <= revision], m.tree(revision)
+    if not shown:
+        yield 'panel: 8 before every released revision' if done else 'panel: 8 without a release'
+        if revision == 0:
+            yield 'panel: 8 at revision 0'
+        return
+    at = max(shown)
+    if answer[0] == 'no':
+        if sheet in tree:
+            yield 'panel: 8 where read finds the sheet'
+        if any(sheet in m.tree(r) for r in shown):
+            yield 'panel: 8 where an older released tree has it'
+        return
+    yield 'panels at a released revision' if at == revision else 'panels above it'
+    if at != shown[-1]:
+        yield 'panels of one that was not released last'
+    if sheet not in tree:
+        yield 'panels of a sheet that tree R lacks'
+    elif tree[sheet] != answer[1]:
+        yield 'panels of other bytes than read'
+    if answer[2] < at:
+        yield 'panels with a number below what they read'
+
+
 def goes_on(m, name, tail, answer):
     """Whether the call is a commit after a stopped one left blocks and these were cleared."""
     if answer[0] == 'stopped' and name == 'commit_cut' and m.tail:
@@ -329,13 +409,23 @@ def found(m, tail):
 
 
 def made(m, call):
-    """The model makes the call. What of W2, W3, W5, W6 and W7 it meets is counted."""
+    """The model makes the call. What of W2, W3, W5, W6, W7 and W9 it meets is counted."""
     name, seat, *args = call
     if name == 'update' and args[1] <= m.last():
         seen.update(met(m, *call[1:]))
     tail, blocks = m.tail, m.asked(seat, *args[:2])[2] if name == 'commit_cut' else 0
     turn, bare = m.turn, twin(m).call('commit', seat, *args) if name == 'turn_commit' else None
+    behind, releases = bool(m.log) and isinstance(m.log[-1], sheets.Release), len(sheets.released(m.log))
+    if name == 'release':
+        seen.update(releasing(m, *args))
     answer = m.call(*call)
+    if name == 'panel':
+        seen.update(on_panel(m, *args, answer))
+    seen['commits behind a release'] += behind and answer[0] == 'revision'
+    if answer == ('no', 13) and name == 'commit' and releases:
+        roomy = twin(m)
+        roomy.blocks += releases
+        seen['commits with no room beside the releases'] += roomy.call(*call)[0] == 'revision'
     if name in ON_RECORD:
         seen[on_record(turn, name, args, answer)] += 1
     elif name == 'turn_commit':
@@ -346,13 +436,14 @@ def made(m, call):
         seen.update(cut_clearing(*args, tail))
     elif answer == ('no', 14):
         seen['commits refused with 14'] += name == 'commit'
-        seen['commit that is refused without it' if without_tail(m, call)[0] == 'no' else 'commit that goes through without it'] += 1
+        what = 'release' if name == 'release' else 'commit'
+        seen[f'{what} that is refused without it' if without_tail(m, call)[0] == 'no' else f'{what} that goes through without it'] += 1
     elif tail and answer[0] != 'no':
         seen[f'{name} done'] += 1
     if name == 'commit_cut':
         seen.update(cut_commit(args[2], blocks, answer))
     seen['commits after a stopped one was cleared'] += goes_on(m, name, tail, answer)
-    if answer[0] in ('bytes', 'status'):
+    if answer[0] in ('bytes', 'status') and name != 'panel':
         seen.update(told(m, name, seat, args, answer))
     return answer
 
@@ -432,6 +523,8 @@ def random_call(rng, m):
         return to_cut(rng, m)
     if m.history and rng.random() < 0.35:
         return same_edit(rng, m)
+    if m.history and rng.random() < 0.06:
+        return to_release(rng, m)
     name = rng.choice(list(NAMES) + ['add', 'edit', 'commit', 'commit', 'update'])
     if m.history and name in ('read', 'show', 'status') and rng.random() < 0.6:
         return look(rng, m)
@@ -443,10 +536,56 @@ def random_call(rng, m):
             'copy': lambda: (sheet(), sheet()), 'move': lambda: (sheet(), sheet()), 'commit': lambda: (rng.getrandbits(32), mask()),
             'update': lambda: (mask(), revision()), 'revert': lambda: (mask(),), 'read': lambda: (revision(), sheet()),
             'show': lambda: (sheet(),), 'status': lambda: (sheet(),), 'log': lambda: (revision(), sheet()), 'clear': tuple,
-            'clear_cut': lambda: (rng.choice([0, 1, 2 ** 32 - 1]),)}
+            'clear_cut': lambda: (rng.choice([0, 1, 2 ** 32 - 1]),), 'release': lambda: (revision(), rng.randint(0, 5), rng.getrandbits(32)),
+            'panel': lambda: (revision(), sheet())}
     if name == 'commit_cut':
         return cut(rng, m, ('commit', rng.randint(1, 4), *args['commit']()))
     return (name, rng.randint(1, 4), *args[name]())
+
+
+def to_release(rng, m):
+    """A call that leads to W9: a panel's reading, or a release, mostly of a revision that isn't released yet."""
+    last, done = m.last(), sheets.released(m.log)
+    if not m.tail and rng.random() < (0.5 if done else 0.75):
+        return ('panel', rng.randint(1, 4), *to_panel(rng, m, done))
+    left, seat = [r for r in range(1, last + 1) if r not in done], rng.randint(1, 4)
+    other = [*[rng.choice(done or [1])] * 3, 0, last + 1, 65536 + rng.randint(1, last), 2 ** 32 - 1]
+    revision = rng.choice([left[-1], rng.choice(left)]) if left and rng.random() < 0.5 else rng.choice(other)
+    by = seat if rng.random() < 0.8 else rng.choice([0, 5, 256, 256 + seat, 65536 + seat, 2 ** 32 - 1])
+    return ('release', rng.randint(1, 4), revision, by, rng.choice([0, 2 ** 32 - 1, rng.getrandbits(32)]))
+
+
+def to_panel(rng, m, done):
+    """A revision, mostly about a released one, and a sheet that a commit named: one that went or changed since the release, or any."""
+    last, named = m.last(), sorted({i for _, _, changes in m.history for i in changes})
+    revision = max(0, rng.choice(done) + rng.choice([-1, 0, 0, 1, 2])) if done and rng.random() < 0.5 else rng.choice([0, *[last, rng.randint(0, last)] * 4])
+    released, tree = (m.tree(r) for r in (max((r for r in done if r <= revision), default=0), revision))
+    gone, other = [i for i in released if i not in tree], [i for i in tree if tree[i] != released.get(i)]
+    if rng.random() < 0.08:
+        return rng.choice([(last + 1, named[0]), (65536 + revision, named[0]), (revision, 32), (revision, 256 + named[0])])
+    return revision, rng.choice(rng.choice([gone, other, named]) or named)
+
+
+def to_change(rng, m):
+    """A call that makes the trees differ: a seat changes or deletes a sheet that it has as it is, or commits what it can."""
+    seat, tree = rng.randint(1, 4), m.tree(m.last())
+    ready = current(m, seat)
+    if ready and rng.random() < 0.6:
+        return ('commit', seat, rng.getrandbits(32), sum(1 << i for i in ready))
+    own = [i for i, e in enumerate(m.seats[seat]) if e[0] == 'normal' and i in tree and m.namer(m.last(), i) <= e[1]]
+    if not own:
+        return rng.choice([('update', seat, 0xffffffff, m.last()), ('update', seat, 0xffffffff, m.last()), ('revert', seat, 0xffffffff)])
+    sheet = rng.choice(own)
+    return ('delete', seat, sheet) if rng.random() < 0.3 else ('edit', seat, sheet, bytes([rng.getrandbits(8)]))
+
+
+def release_call(rng, m):
+    """A call of a list that is for W9."""
+    if not m.history:
+        return random_call(rng, m)
+    if m.tail and rng.random() < 0.5:
+        return to_cut(rng, m)
+    return rng.choice([to_release, to_release, to_release, to_change, to_change, random_call])(rng, m) if rng.random() < 0.9 else to_cut(rng, m)
 
 
 def turn_call(rng, m):
@@ -510,10 +649,10 @@ def look(rng, m):
 
 
 def random_calls(seed, m, count, choose, requests):
-    """Random calls on a machine like m: the seed's first list of so many that meets all of these requests, if one of sixty does. The calls, the answers and the
-    machine after them."""
+    """Random calls on a machine like m: the seed's first list of so many that meets all of these requests, if one of two hundred does. The calls, the answers and
+    the machine after them."""
     before = collections.Counter(seen)
-    for n in range(60):
+    for n in range(200):
         rng, after, calls, answers = random.Random(f'{seed} {n}'), twin(m), [], []
         seen.clear()
         seen.update(before)
@@ -526,19 +665,23 @@ def random_calls(seed, m, count, choose, requests):
 
 
 def random_list(count, seed):
-    """Random calls by four seats on a store that is found with a tail, then a quarter as many of any kind: the theorems, and how many calls."""
+    """Random calls by four seats on a store that is found with a tail, then a quarter as many of any kind, and as many that are for W9: the theorems, and how many
+    calls."""
     m = sheets.Machine(4096)
     found(m, FOUND)
-    calls, answers, between = random_calls(seed, m, count, random_call, IN_LIST)
-    more, said, end = random_calls(seed, between, count // 4, any_call, THEN)
-    return theorems(4096, calls + more, answers + said, *stands(end), start=stands(m)), len(calls + more)
+    calls, answers, end = [], [], m
+    for some, choose, requests in (count, random_call, IN_LIST), (count // 4, any_call, THEN), (count // 4, release_call, AT_LAST):
+        more, said, end = random_calls(seed, end, some, choose, requests)
+        calls += more
+        answers += said
+    return theorems(4096, calls, answers, *stands(end), start=stands(m)), len(calls)
 
 
 def main():
     if len(sys.argv) >= 3 and sys.argv[1] == '--random':
         text, calls = random_list(int(sys.argv[2]), int(sys.argv[3]) if len(sys.argv) > 3 else 1)
         count, texts = 1, [text]
-        if tally(int(sys.argv[2]) >= 1000, IN_LIST + THEN):
+        if tally(int(sys.argv[2]) >= 1000, IN_LIST + THEN + AT_LAST):
             sys.exit(1)
     elif len(sys.argv) == 2:
         lists = [from_json(json.loads(line)) for line in open(sys.argv[1])]

@@ -7,8 +7,9 @@
  * the store must carry one, and a part of a copy none; a commit that is done or stops found no tail, and a clear leaves the history and zeros. A commit that stops
  * leaves the copy's bytes as they were, the history, n blocks of content and zeros; a clear that stops leaves all but the n highest blocks of the tail. A commit in
  * turn (W7) must leave its record, and be the plain commit of the same buffers or refused for the record; a call on a record is refused with 7 exactly if the seat or
- * the record is wrong, leaves the record then, and answers the holder otherwise. Exits 1, with the seed and the call's number, if that is not so. A touch of a byte
- * outside a piece ends the program.
+ * the record is wrong, leaves the record then, and answers the holder otherwise. A release (W9) that is done found no tail and writes its one block behind the history;
+ * a panel's reading is the read at the greatest released revision up to its own, or refused. Exits 1, with the seed and the call's number, if that is not so. A touch
+ * of a byte outside a piece ends the program.
  */
 #define _DEFAULT_SOURCE
 #include "sheetstore.h"
@@ -23,6 +24,8 @@
 #define MAX_STORE (4097 * SHEETS_BLOCK)
 #define COPIES_LEN (4 * SHEETS_COPY_LEN)
 #define MAX_CALLS 12 /* of a script */
+#define REFUSALS 17 /* 0 for none, and 1 to 16 */
+#define RELEASED 16 /* a release of a revision already released */
 
 static uint64_t state;
 static bool in_pages;
@@ -77,7 +80,8 @@ static void give_back(struct piece p) {
 static uint8_t store[MAX_STORE], copies[COPIES_LEN], hurt_store[MAX_STORE], hurt_copies[COPIES_LEN + SHEETS_BLOCK];
 static size_t store_len;
 static sheets_turn turn;
-static unsigned long answered[16], replayed[16], committed_in_turn[16], turned[16], cleared, stopped_commits, stopped_clears;
+static unsigned long answered[REFUSALS], replayed[REFUSALS], committed_in_turn[REFUSALS], turned[REFUSALS], released[REFUSALS], on_panel[REFUSALS];
+static unsigned long cleared, stopped_commits, stopped_clears;
 
 static void seal(uint8_t *block) {
     uint32_t a = 0, b = 0;
@@ -101,10 +105,31 @@ static bool all_zero(const uint8_t *bytes, size_t len) {
     return true;
 }
 
-/* The bytes of an accepted store up to its last commit block, or its label. A tail has content, and a block with a wrong check. */
+/* The bytes of an accepted store up to its last commit or release block, or its label. A tail has content, and a block with a wrong check. */
 static size_t history_len(const uint8_t *bytes, size_t len) {
-    while (len > SHEETS_BLOCK && (bytes[len - SHEETS_BLOCK] != 3 || !sealed(bytes + len - SHEETS_BLOCK))) len -= SHEETS_BLOCK;
+    for (; len > SHEETS_BLOCK; len -= SHEETS_BLOCK) {
+        const uint8_t *block = bytes + len - SHEETS_BLOCK;
+        if ((block[0] == 3 || block[0] == 6) && sealed(block)) break;
+    }
     return len;
+}
+
+static uint32_t revision_in(const uint8_t *block) {
+    return block[4] + 256u * block[5];
+}
+
+/* The last revision of an accepted store whose history has so many bytes. */
+static uint32_t last_revision(const uint8_t *bytes, size_t used) {
+    while (used > SHEETS_BLOCK && bytes[used - SHEETS_BLOCK] != 3) used -= SHEETS_BLOCK;
+    return used > SHEETS_BLOCK ? revision_in(bytes + used - SHEETS_BLOCK) : 0;
+}
+
+/* The greatest released revision up to this one, 0 for none. */
+static uint32_t greatest_released(const uint8_t *bytes, size_t used, uint32_t revision) {
+    uint32_t greatest = 0;
+    for (size_t at = SHEETS_BLOCK; at < used; at += SHEETS_BLOCK)
+        if (bytes[at] == 6 && revision_in(bytes + at) <= revision && revision_in(bytes + at) > greatest) greatest = revision_in(bytes + at);
+    return greatest;
 }
 
 /* The bytes up to the last block that is not all zero. */
@@ -126,8 +151,7 @@ static bool stopped_wrong(const uint8_t *before, const uint8_t *after, size_t le
 /* Puts a tail behind the history of an accepted store, as far as there is room, in place of the one that is there. */
 static void put_tail(uint8_t *bytes, size_t len) {
     size_t at = history_len(bytes, len);
-    const uint8_t *last = bytes + at - SHEETS_BLOCK;
-    uint32_t revision = 1 + (last[0] == 3 ? last[4] + 256u * last[5] : 0), count = below(3) ? below(4) : below(33);
+    uint32_t revision = 1 + last_revision(bytes, at), count = below(3) ? below(4) : below(33);
     memset(bytes + at, 0, len - at);
     for (; count > 0 && at < len; count--, at += SHEETS_BLOCK) {
         uint8_t *block = bytes + at;
@@ -151,6 +175,8 @@ static void damage(uint8_t *buffer, size_t *len) {
     uint8_t *block = buffer + SHEETS_BLOCK * below((uint32_t)(below(2) ? near : blocks));
     if (below(4) == 0)
         block[1] = 1, block[4] = (uint8_t)(1 + below(4)); /* in an entry: normal, with another base */
+    else if (below(6) == 0) /* a release, which stands where it is in few places */
+        memset(block, 0, SHEETS_BLOCK), block[0] = 6, block[4] = (uint8_t)below(4), block[6] = (uint8_t)below(6), block[8] = (uint8_t)below(256);
     else
         block[below(2) ? below(32) : below(512)] = (uint8_t)below(256);
     if (below(8) != 0) seal(block);
@@ -205,7 +231,7 @@ static bool take_turns(void) {
     return wrong;
 }
 
-/* A commit in turn of these buffers, beside a plain one of the same: its refusal, or 16 where it is neither that nor refused for the record. */
+/* A commit in turn of these buffers, beside a plain one of the same: its refusal, or REFUSALS where it is neither that nor refused for the record. */
 static uint32_t commit_in_turn(struct piece s, struct piece c, uint32_t stamp, uint32_t mask) {
     uint32_t seat = c.bytes[1];
     sheets_turn record = below(4) ? some_turn(seat) : turn;
@@ -219,7 +245,52 @@ static uint32_t commit_in_turn(struct piece s, struct piece c, uint32_t stamp, u
     bool wrong = by_record != 0 ? a.refusal != by_record || a.value != 0 : a.refusal != plain.refusal || a.value != plain.value || !same;
     wrong |= memcmp(t.bytes, &record, sizeof record) != 0;
     give_back(t), give_back(plain_s), give_back(plain_c);
-    return wrong ? 16 : a.refusal;
+    return wrong ? REFUSALS : a.refusal;
+}
+
+/* ---- releases */
+
+/* Whether the refusal of a release on an accepted store without a tail, or what it left, is wrong. */
+static bool release_wrong(const uint8_t *before, const uint8_t *after, size_t len, uint32_t revision, uint32_t seat, uint32_t stamp, uint32_t refusal) {
+    size_t used = history_len(before, len);
+    uint8_t block[SHEETS_BLOCK] = {6, 0, 0, 0, (uint8_t)revision, (uint8_t)(revision >> 8), (uint8_t)seat, 0, (uint8_t)stamp, (uint8_t)(stamp >> 8),
+                                   (uint8_t)(stamp >> 16), (uint8_t)(stamp >> 24)};
+    bool range = revision == 0 || revision > last_revision(before, used) || seat < 1 || seat > 4;
+    bool twice = !range && greatest_released(before, used, revision) == revision;
+    uint32_t wanted = range ? SHEETS_REFUSED_RANGE : twice ? RELEASED : used == len ? SHEETS_REFUSED_NO_ROOM : 0;
+    if (refusal != wanted) return true;
+    if (refusal != 0) return false;
+    seal(block);
+    return memcmp(before, after, used) != 0 || memcmp(after + used, block, SHEETS_BLOCK) != 0 || !all_zero(after + used + SHEETS_BLOCK, len - used - SHEETS_BLOCK);
+}
+
+/* A release on the piece s, which holds the bytes before: its refusal, or REFUSALS where something is wrong. */
+static uint32_t release(struct piece s, const uint8_t *before, uint32_t revision) {
+    uint32_t seat = some_seat(), stamp = below(4) ? below(UINT32_MAX) : UINT32_MAX;
+    if (below(8) == 0) revision = below(2) ? 0 : revision | 1u << (16 + below(16));
+    sheets_answer a = sheets_release(s.bytes, s.len, revision, seat, stamp);
+    if (a.value != 0 || a.refusal >= REFUSALS) return REFUSALS;
+    released[a.refusal]++;
+    bool own = a.refusal == 0 || a.refusal == SHEETS_REFUSED_RANGE || a.refusal == SHEETS_REFUSED_NO_ROOM || a.refusal == RELEASED;
+    if (!own) return a.refusal > SHEETS_REFUSED_STORE_LAYOUT && a.refusal != SHEETS_REFUSED_TAIL ? REFUSALS : a.refusal;
+    size_t used = history_len(before, s.len);
+    if (!all_zero(before + used, s.len - used)) return REFUSALS; /* the others come after 14 */
+    return release_wrong(before, s.bytes, s.len, revision, seat, stamp, a.refusal) ? REFUSALS : a.refusal;
+}
+
+/* A panel's reading, beside the read that it should be: its refusal, or REFUSALS where it is another. */
+static uint32_t panel(struct piece s, uint32_t revision, uint32_t sheet) {
+    sheets_place p = sheets_panel_read(s.bytes, s.len, revision, sheet);
+    if (p.refusal >= REFUSALS || p.buffer != 0 || (p.revision != 0) != (p.refusal == 0)) return REFUSALS;
+    on_panel[p.refusal]++;
+    for (size_t i = 0; i < p.len; i++) state += s.bytes[p.start + i]; /* every byte of the part can be read */
+    sheets_place whole = sheets_read(s.bytes, s.len, revision, sheet);
+    if (whole.refusal != 0 && whole.refusal != SHEETS_REFUSED_MISSING) return p.refusal == whole.refusal ? p.refusal : REFUSALS;
+    uint32_t shown = greatest_released(s.bytes, history_len(s.bytes, s.len), revision);
+    if (shown == 0) return p.refusal == SHEETS_REFUSED_MISSING ? p.refusal : REFUSALS;
+    sheets_place there = sheets_read(s.bytes, s.len, shown, sheet);
+    bool same = p.refusal == there.refusal && p.start == there.start && p.len == there.len && p.revision == there.revision;
+    return same ? p.refusal : REFUSALS;
 }
 
 /* One call on pieces of memory with these buffers; what it leaves goes back into them. Answers whether a refused call changed one, or an answer is wrong. */
@@ -227,13 +298,14 @@ static bool call(uint8_t *store_at, size_t store_size, uint8_t *copy_at, size_t 
     static const uint32_t some[] = {0, 1, 2, 3, 5, 31};
     uint32_t sheet = below(8) ? some[below(6)] : below(34), other = below(8) ? some[below(6)] : below(34);
     uint32_t mask = below(3) ? UINT32_MAX : below(2) ? 1u << sheet % 32 : below(4) * 0x01234567u, revision = below(below(2) ? 4 : 40);
-    uint32_t kind = below(28), n = below(2) ? below(3) : below(2) ? below(34) : UINT32_MAX - below(2), stopped = 0;
-    bool clears = kind == 12 || kind == 13, commits = kind > 13;
+    uint32_t kind = below(32), n = below(2) ? below(3) : below(2) ? below(34) : UINT32_MAX - below(2), stopped = 0;
+    bool clears = kind == 12 || kind == 13, commits = kind > 13 && kind < 28, releases = kind == 28 || kind == 29;
+    if (kind > 27 && below(4)) revision = below(below(2) ? 2 : 5);
     uint8_t text[481];
     size_t text_len = below(16) == 0 ? 480 + below(2) : below(4);
     memset(text, (int)below(256), sizeof text);
 
-    struct piece s = lend(store_at, store_size, clears || commits), c = lend(copy_at, copy_size, kind < 8 || commits), t = lend(text, text_len, false);
+    struct piece s = lend(store_at, store_size, clears || commits || releases), c = lend(copy_at, copy_size, kind < 8 || commits), t = lend(text, text_len, false);
     uint32_t refusal;
     switch (kind) {
     case 0: case 1: refusal = sheets_add(s.bytes, s.len, c.bytes, c.len, sheet, t.bytes, t.len).refusal; break;
@@ -276,6 +348,14 @@ static bool call(uint8_t *store_at, size_t store_size, uint8_t *copy_at, size_t 
         refusal = commit_in_turn(s, c, below(UINT32_MAX), mask);
         if (refusal > SHEETS_REFUSED_NOT_HOLDING) return true;
         break;
+    case 28: case 29:
+        refusal = release(s, store_at, revision);
+        if (refusal >= REFUSALS) return true;
+        break;
+    case 30: case 31:
+        refusal = panel(s, revision, sheet);
+        if (refusal >= REFUSALS) return true;
+        break;
     default: refusal = sheets_commit(s.bytes, s.len, c.bytes, c.len, below(UINT32_MAX), mask).refusal;
     }
     answered[refusal]++;
@@ -296,23 +376,24 @@ static bool call(uint8_t *store_at, size_t store_size, uint8_t *copy_at, size_t 
     return wrong;
 }
 
-/* A script of random calls, now and then with a fault. What a record has no use for holds anything. */
+/* A script of random calls, now and then with a fault. What a record has no use for holds anything. Kinds are 1 to 15, 20 and 21: those between are on a turn record. */
 static size_t make_script(uint8_t *script) {
     size_t len = SHEETS_RECORD_LEN * below(MAX_CALLS + 1);
     for (size_t i = 0; i < len; i++) script[i] = (uint8_t)below(256);
     for (uint8_t *record = script; record < script + len; record += SHEETS_RECORD_LEN) {
         uint32_t bytes = below(8) ? below(4) : below(497);
-        record[0] = (uint8_t)(below(3) ? 1 + below(15) : below(2) ? 6 : 14), record[1] = (uint8_t)(1 + below(4));
+        uint32_t kind = below(3) ? 1 + below(17) : below(2) ? 6 : 14;
+        record[0] = (uint8_t)(kind > 15 ? kind + 4 : kind), record[1] = (uint8_t)(1 + below(4));
         bool commits = record[0] == 6 || record[0] == 14;
         record[2] = (uint8_t)bytes, record[3] = (uint8_t)(bytes >> 8);
         if (!commits && record[0] != 7 && record[0] != 8) record[4] = (uint8_t)below(6), record[5] = record[6] = record[7] = 0;
         record[8] = (uint8_t)(commits ? 255 : below(6)), record[9] = record[10] = record[11] = 0;
-        if (record[0] == 14 && below(4)) record[12] = (uint8_t)below(5), record[13] = record[14] = record[15] = 0;
+        if ((record[0] == 14 || record[0] == 20) && below(4)) record[12] = (uint8_t)below(6), record[13] = record[14] = record[15] = 0;
     }
     if (len != 0 && below(8) == 0) {
         uint8_t *record = script + SHEETS_RECORD_LEN * below((uint32_t)(len / SHEETS_RECORD_LEN));
         switch (below(4)) {
-        case 0: record[0] = below(2) ? 0 : 16; break;
+        case 0: record[0] = (uint8_t)(below(2) ? 16 + below(4) : below(2) ? 0 : 22); break;
         case 1: record[1] = below(2) ? 0 : 5; break;
         case 2: record[2] = 241, record[3] = 1; break; /* 497 bytes */
         default: len -= 1 + below(511);
@@ -335,7 +416,7 @@ static bool replay(uint8_t *store_at, size_t store_size, uint8_t *copies_at, siz
     bool wrong = refusal != 0 && (memcmp(s.bytes, store_at, s.len) != 0 || memcmp(c.bytes, copies_at, c.len) != 0 || memcmp(a.bytes, before, a.len) != 0);
     if (refusal == 0) {
         wrong |= memcmp(a.bytes + script_len, before + script_len, answers_len - script_len) != 0;
-        for (size_t at = 0; at < script_len; at += SHEETS_RECORD_LEN) wrong |= a.bytes[at] > 14;
+        for (size_t at = 0; at < script_len; at += SHEETS_RECORD_LEN) wrong |= a.bytes[at] > RELEASED || a.bytes[at] == SHEETS_REFUSED_NOT_HOLDING;
     }
     memcpy(store_at, s.bytes, s.len);
     memcpy(copies_at, c.bytes, c.len);
@@ -361,7 +442,7 @@ static bool fresh(size_t blocks) {
 
 static void tell(const char *what, const unsigned long *by_refusal) {
     printf("%s: done %lu; refused", what, by_refusal[0]);
-    for (int n = 1; n < 16; n++) printf("%s %d: %lu", n == 1 ? "" : ",", n, by_refusal[n]);
+    for (int n = 1; n < REFUSALS; n++) printf("%s %d: %lu", n == 1 ? "" : ",", n, by_refusal[n]);
     printf("\n");
 }
 
@@ -400,6 +481,8 @@ int main(int argc, char **argv) {
     tell("calls", answered);
     tell("commits in turn", committed_in_turn);
     tell("replays", replayed);
+    tell("releases", released);
+    tell("panel readings", on_panel);
     printf("calls on a turn record: done %lu; refused 7: %lu\n", turned[0], turned[7]);
     printf("tails cleared: %lu; commits stopped: %lu; clears stopped: %lu\n", cleared, stopped_commits, stopped_clears);
     return 0;

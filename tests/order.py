@@ -5,10 +5,10 @@ order.py [--seed N] [--lists N] [--only K]
 
 For each list of calls another one that makes the same history by other calls: both call by call and as scripts, on four fresh stores of one size, which must be
 equal once their tails are cleared, though commits and clearings between were stopped half way and one of the stores is found with other tails on its way; and one
-that makes another history, which must leave other bytes. W6: "W1 speaks of stores without a tail." Then a history in a random order of its changes and of its
-content blocks: accepted, and read as the model does; more calls on it, which must leave the blocks that are there and lay out theirs in W1's order; and damage, as
-tests/calls.py and tests/replay.py do it. Then stores laid out by hand. At the first list that fails its seed and number are printed: `--seed N --only K` runs that
-list alone.
+that makes another history, which must leave other bytes. W6: "W1 speaks of stores without a tail." W9: "For layout and W1 a history includes its releases and their
+places", here the log of tests/model. Then a history in a random order of its changes and of its content blocks: accepted, and read as the model does; more calls on
+it, which must leave the blocks that are there and lay out theirs in W1's order; and damage, as tests/calls.py and tests/replay.py do it. Then stores laid out by
+hand. At the first list that fails its seed and number are printed: `--seed N --only K` runs that list alone.
 """
 import collections, pathlib, random, sys
 
@@ -17,36 +17,40 @@ sys.path.insert(0, str(pathlib.Path(__file__).resolve().parent / 'model'))
 import accept, calls, layout, lists, replay, sheets
 from calls import fail
 from engine import Engine
-from sheets import ADD, CHANGE, COPY, DELETE
+from sheets import ADD, CHANGE, COPY, DELETE, Release, commits_of, released
 
-LOOKS = ('read', 'show', 'status', 'log')
-WAYS = ('last commit', 'stamp', 'seat', 'byte', 'length', 'source', 'action')
+LOOKS = ('read', 'show', 'status', 'log', 'panel')
+OF_RELEASE = ('release less', 'release more', 'place of a release', 'revision of a release', 'seat of a release', 'stamp of a release')
+WAYS = ('last commit', 'stamp', 'seat', 'byte', 'length', 'source', 'action', *OF_RELEASE)
 SHARED = ('copies that share a block', 'of them between two content blocks', 'in a block that W1 numbers otherwise', 'past block 255')
-BETWEEN = ('calls on entries that no commit takes', 'looks', 'clears', 'stopped commits', 'stopped clearings', *(f'calls refused with {n}' for n in range(7, 15)))
+BETWEEN = ('calls on entries that no commit takes', 'looks', 'clears', 'stopped commits', 'stopped clearings',
+           *(f'calls refused with {n}' for n in (*range(7, 15), 16)))
 CUT = ('calls beside a tail', 'commits of a history as cut calls')
 RING = 'rings of copies'
 ANOTHER = tuple(f'another {way}' for way in WAYS)
-seen = collections.Counter(dict.fromkeys(['pairs', 'tails cleared', 'stores in another order', 'left out', *SHARED, RING, *BETWEEN, *CUT, *ANOTHER], 0))
+RELEASED = ('releases of a history', 'commits of a history behind a release', 'stores in another order with releases', 'other histories by their releases alone')
+seen = collections.Counter(dict.fromkeys(['pairs', 'tails cleared', 'stores in another order', 'left out', *SHARED, RING, *BETWEEN, *CUT, *RELEASED, *ANOTHER], 0))
 
 
 # ---- histories
 
-def used(history):
+def used(log):
     """The blocks that a history takes."""
     model = sheets.Machine(4096)
-    model.history = history
-    return 1 + sum(1 + sum(map(model.content, changes.values())) for _, _, changes in history)
+    model.log = log
+    return 1 + len(released(log)) + sum(1 + sum(map(model.content, changes.values())) for _, _, changes in model.history)
 
 
-def can_be(history, blocks):
-    """Whether calls can make the history: no change to the bytes that are there already, and room."""
+def can_be(log, blocks):
+    """Whether calls can make the history: no change to the bytes that are there already, no release of a revision that is not there or that is released, and room."""
     model = sheets.Machine(blocks)
-    model.history = history
-    for n, (_, _, changes) in enumerate(history):
+    model.log = log
+    for n, (_, _, changes) in enumerate(model.history):
         tree = model.tree(n)
         if any(action == CHANGE and data == tree[i] for i, (action, data, _) in changes.items()):
             return False
-    return used(history) <= blocks
+    ahead = any(isinstance(item, Release) and not 1 <= item.revision <= len(commits_of(log[:n])) for n, item in enumerate(log))
+    return not ahead and len(set(released(log))) == len(released(log)) and used(log) <= blocks
 
 
 def random_bytes(rng):
@@ -85,27 +89,66 @@ def random_commit(rng, model, sizes=(1, 2, 4, 7, 12, 32)):
     return rng.randint(1, 4), rng.choice([0, 2 ** 32 - 1, rng.getrandbits(32)]), changes
 
 
+def random_releases(rng, log):
+    """Releases that can come next: none, one or two, of any revisions that aren't released."""
+    left = [r for r in range(1, len(commits_of(log)) + 1) if r not in released(log)]
+    return [random_release(rng, r) for r in rng.sample(left, min(len(left), rng.choice([0, 0, 1, 2])))]
+
+
+def random_release(rng, revision):
+    return Release(revision, rng.randint(1, 4), rng.choice([0, 2 ** 32 - 1, rng.getrandbits(32)]))
+
+
 def random_history(rng, commits, *sizes):
     model = sheets.Machine(4096)
     for _ in range(commits):
-        model.history.append(random_commit(rng, model, *sizes))
-    return model.history
+        model.log.append(random_commit(rng, model, *sizes))
+        model.log += random_releases(rng, model.log)
+    return model.log
 
 
-def another(rng, history, blocks):
+def other_release(rng, log, way):
+    """A log that differs in a release: one more or less, or one of them at another place, of another revision, seat or stamp."""
+    at = [n for n, item in enumerate(log) if isinstance(item, Release)]
+    n = rng.randint(1, len(log)) if way == 'release more' else rng.choice(at) if at else None
+    if n is None:
+        return log
+    if way == 'release more':
+        return [*log[:n], random_release(rng, rng.randint(1, len(commits_of(log[:n])))), *log[n:]]
+    rest, item = [*log[:n], *log[n + 1:]], log[n]
+    if way == 'release less':
+        return rest
+    if way == 'place of a release':
+        n = rng.randint(1, len(rest))
+    elif way == 'revision of a release':
+        item = item._replace(revision=rng.randint(1, len(commits_of(log))))
+    elif way == 'seat of a release':
+        item = item._replace(seat=rng.randint(1, 4))
+    else:
+        item = item._replace(stamp=item.stamp ^ 1 << rng.randrange(32))
+    return [*rest[:n], item, *rest[n:]]
+
+
+def another(rng, log, blocks):
     """A history that differs in one place and has room in so many blocks."""
-    model, other = sheets.Machine(blocks), history
-    model.history = history
-    while other == history or not can_be(other, blocks):
-        way = rng.choice(WAYS) if history else 'last commit'
+    model, other = sheets.Machine(blocks), log
+    model.log = log
+    while other == log or not can_be(other, blocks):
+        way = rng.choice(WAYS) if log else 'last commit'
         if way == 'last commit':
-            other = rng.choice([history[:-1], history + [random_commit(rng, model)]])
+            last = max((n for n, item in enumerate(log) if not isinstance(item, Release)), default=0)
+            other = rng.choice([log[:last], log + [random_commit(rng, model)]])
             continue
-        places = [(n, i) for n, (_, _, changes) in enumerate(history) for i, c in changes.items() if c[2] or way not in ('source', 'action')]
+        if way in OF_RELEASE:
+            other = other_release(rng, log, way)
+            continue
+        commits = [(n, item) for n, item in enumerate(log) if not isinstance(item, Release)]
+        places = [(n, i) for n, (_, _, changes) in commits for i, c in changes.items() if c[2] or way not in ('source', 'action')]
         if not places:
             continue
         n, sheet = rng.choice(places)
-        seat, stamp, changes = history[n]
+        seat, stamp, changes = log[n]
+        before = len(commits_of(log[:n]))
         action, data, source = changes[sheet]
         if way == 'stamp':
             stamp ^= 1 << rng.randrange(32)
@@ -117,11 +160,12 @@ def another(rng, history, blocks):
         elif way == 'length' and action != DELETE and len(data) < 480:
             data += b'\0'
         elif way == 'source':
-            source = rng.choice([(i, r) for r in range(1, n + 1) for i in model.tree(r)])
+            source = rng.choice([(i, r) for r in range(1, before + 1) for i in model.tree(r)])
         elif way == 'action':
             action, source = ADD, None
-        other = [*history[:n], (seat, stamp, {**changes, sheet: (action, data, source)}), *history[n + 1:]]
+        other = [*log[:n], (seat, stamp, {**changes, sheet: (action, data, source)}), *log[n + 1:]]
     seen[f'another {way}'] += 1
+    seen['other histories by their releases alone'] += way in OF_RELEASE
     return other
 
 
@@ -132,7 +176,8 @@ def mask(chosen):
 
 
 class Maker:
-    """Makes calls on a model, and keeps them with their answers. `commit` makes a given commit in one way of many, with other work in between."""
+    """Makes calls on a model, and keeps them with their answers. `commit` makes a given commit in one way of many, with other work in between, `release` a given
+    release."""
 
     def __init__(self, rng, model):
         self.rng, self.model, self.calls, self.said, self.seen = rng, model, [], [], collections.Counter()
@@ -157,7 +202,7 @@ class Maker:
         for _ in range(self.rng.choice([0, 0, 1, 2])):
             c, trial = lists.random_call(self.rng, self.model), lists.twin(self.model)
             answer = trial.call(*c)
-            if trial.last() == self.model.last() and all(trial.seats[seat][i] == self.model.seats[seat][i] for i in kept):
+            if trial.log == self.model.log and all(trial.seats[seat][i] == self.model.seats[seat][i] for i in kept):
                 self.call(*c)
                 if answer[0] == 'no':
                     what = f'calls refused with {answer[1]}'
@@ -275,6 +320,22 @@ class Maker:
             self.call('commit', *commit)
         return True
 
+    def release(self, release):
+        """Makes a release, without a tail."""
+        self.noise()
+        if self.model.tail:
+            self.call('clear', 1)
+        self.does('release', self.rng.randint(1, 4), *release)
+        self.seen['releases of a history'] += 1
+
+    def item(self, item):
+        """Makes a commit or a release. Whether it could be made."""
+        if isinstance(item, Release):
+            self.release(item)
+            return True
+        self.seen['commits of a history behind a release'] += isinstance((self.model.log or [None])[-1], Release)
+        return self.commit(*item)
+
     def moves(self, sheet, changes, sources):
         """Whether a move makes the entry: mostly, if it is a copy whose source the commit deletes, no other copy needs and no commit named since."""
         source, last = changes[sheet][2], self.model.last()
@@ -294,14 +355,14 @@ def in_ring(sources):
     return None
 
 
-def made(rng, blocks, history):
+def made(rng, blocks, log):
     """Calls that make the history on a fresh store, or None."""
     maker = Maker(rng, sheets.Machine(blocks))
-    if not all(maker.commit(*commit) for commit in history):
+    if not all(map(maker.item, log)):
         return None
     for _ in range(20):
         maker.noise()
-    assert maker.model.history == history
+    assert maker.model.log == log
     return maker
 
 
@@ -316,8 +377,12 @@ def bare(maker):
 def in_order(store, first):
     """W1 in its own words, for the commits from this block on. The copies that share a block are counted."""
     blocks = layout.used_blocks(store)
-    plain = layout.used_blocks(layout.store_bytes(len(store) // 512, layout.history_of(store)[0]))  # every commit in W1's order
+    plain = layout.used_blocks(layout.store_bytes(len(store) // 512, layout.log_of(store)[0]))  # every commit in W1's order
     for number in range(first, len(blocks)):
+        if blocks[number][0] == 6:
+            if number != first:
+                fail(f'the release in block {number} stands behind content')
+            first = number + 1
         if blocks[number][0] != 3:
             continue
         named, actions, points, _ = zip(*layout.lines_of(blocks[number]))
@@ -335,25 +400,25 @@ def pair(engine, rng):
     if rng.random() < 0.4:
         first = Maker(rng, sheets.Machine(rng.choice([4, 12, 32, 64, 200])))
         first.random(rng.choice([60, 150, 300]))
-        blocks, history = first.model.blocks, first.model.history
-        other = another(rng, history, blocks)
+        blocks, log = first.model.blocks, first.model.log
+        other = another(rng, log, blocks)
     else:
-        history = random_history(rng, rng.choice([1, 3, 6, 10]))
-        other = another(rng, history, 4096)
-        blocks = max(used(history), used(other)) + rng.choice([0, 0, 1, 9, 100])
-        first = made(rng, blocks, history)
-    second, third = made(rng, blocks, history), made(rng, blocks, other)
+        log = random_history(rng, rng.choice([1, 3, 6, 10]))
+        other = another(rng, log, 4096)
+        blocks = max(used(log), used(other)) + rng.choice([0, 0, 1, 9, 100])
+        first = made(rng, blocks, log)
+    second, third = made(rng, blocks, log), made(rng, blocks, other)
     if None in (first, second, third):
         seen['left out'] += 1
         return
-    assert first.model.history == second.model.history != third.model.history and first.calls != second.calls
-    wanted = layout.store_bytes(blocks, history)
+    assert first.model.log == second.model.log != third.model.log and first.calls != second.calls
+    wanted = layout.store_bytes(blocks, log)
     for maker in (first, second, third):
         bare(maker)
     for what, maker in (('the first list', first), ('the second list', second)):
         desk, script, found = calls.Desk.fresh(engine, blocks), replay.Desk.fresh(engine, blocks), False
         for c in maker.calls:
-            if found and c[0] in calls.COMMITS:  # not a tail that the list's own calls left
+            if found and c[0] in calls.ADDING:  # not a tail that the list's own calls left
                 desk.call('clear', 1)
                 seen['tails cleared'] += 1
                 found = False
@@ -380,8 +445,8 @@ def pair(engine, rng):
 def other_order(engine, rng, number):
     """A store in a random order: it is accepted and read, and more calls leave its blocks and go on in W1's order. List 0 has block numbers of two bytes."""
     commits, room, rounds, *sizes = (rng.choice([1, 3, 6, 10]), rng.choice([10, 40, 100]), rng.choice([1, 3, 5])) if number else (20, 200, 5, [32])
-    history = random_history(rng, commits, *sizes)
-    before = made(rng, used(history) + room, history)
+    log = random_history(rng, commits, *sizes)
+    before = made(rng, used(log) + room, log)
     if before is None:
         seen['left out'] += 1
         return
@@ -390,17 +455,19 @@ def other_order(engine, rng, number):
     if rng.random() < 0.3:
         model.seats = sheets.Machine(model.blocks).seats
     shuffled = lambda xs: rng.sample(xs, len(xs))
-    store = layout.store_bytes(model.blocks, history, shuffled, shuffled)
-    if accept.refusal(store) or layout.history_of(store) != (history, model.used, 0):
+    store = layout.store_bytes(model.blocks, log, shuffled, shuffled)
+    if accept.refusal(store) or layout.log_of(store) != (log, model.used, 0):
         return fail('the model refuses a store in another order')
     desk, more = calls.Desk(engine, lists.twin(model), store), Maker(rng, lists.twin(model))
     script = replay.Desk(engine, store, b''.join(desk.copies.values()))
     for revision in range(model.last() + 2):
         for sheet in range(33):
-            desk.call('read', 1, revision, sheet)
-            desk.call('log', 1, revision, sheet)
+            for name in ('read', 'log', 'panel'):
+                desk.call(name, 1, revision, sheet)
     for _ in range(rounds):
         more.commit(*random_commit(rng, more.model, *sizes))
+        for release in random_releases(rng, more.model.log)[:more.model.blocks - more.model.used]:
+            more.release(release)
         more.random(rng.choice([0, 10]))
     for c in more.calls:
         desk.call(*c)
@@ -411,34 +478,42 @@ def other_order(engine, rng, number):
     script.held_to('the calls as a script', more.model, bytes(desk.store))
     calls.damaged(engine, rng, desk)
     replay.damaged(engine, rng, script, more.model)
-    seen['stores in another order'] += store != layout.store_bytes(model.blocks, history)
+    seen['stores in another order'] += store != layout.store_bytes(model.blocks, log)
+    seen['stores in another order with releases'] += store != layout.store_bytes(model.blocks, log) and bool(released(log))
     seen.update(more.seen)
 
 
 def by_hand(engine):
-    """Stores whose blocks are listed here: a commit on a fresh one, then one behind it, and the same behind the first in another order."""
-    c, b, l = layout.content, layout.commit_block, layout.line
+    """Stores whose blocks are listed here: a commit on a fresh one, then one behind it, and the same behind the first in another order; and with a release between
+    the two, or behind them."""
+    c, b, l, r = layout.content, layout.commit_block, layout.line, layout.release_block
     one = [('add', 2, 9, b'I'), ('add', 2, 3, b'C'), ('add', 2, 5, b''), ('commit', 2, 7, 1 << 3 | 1 << 5 | 1 << 9)]
     two = [('edit', 2, 9, b'J'), ('copy', 2, 5, 7), ('add', 2, 1, b'A'), ('move', 2, 3, 30), ('edit', 2, 30, b'K'), ('commit', 2, 8, 2 ** 32 - 1)]
     store = lambda *blocks: b''.join(blocks).ljust(10 * 512, b'\0')
     first = [layout.label(), c(1, b'C'), c(1, b''), c(1, b'I'), b(1, 2, 7, [l(3, ADD, 1), l(5, ADD, 2), l(9, ADD, 3)])]
     older = [layout.label(), c(1, b''), c(1, b'I'), c(1, b'C'), b(1, 2, 7, [l(9, ADD, 2), l(3, ADD, 3), l(5, ADD, 1)])]
-    second = lambda shared: [c(2, b'A'), c(2, b'J'), c(2, b'K'), b(2, 2, 8, [
-        l(1, ADD, 5), l(3, DELETE, 0), l(7, COPY, shared, (5, 1)), l(9, CHANGE, 6), l(30, COPY, 7, (3, 1))])]
-    desk = calls.Desk.fresh(engine, 10)
-    for some, wanted in ((one, first), (two, first + second(2))):
+    second = lambda shared, at=5: [c(2, b'A'), c(2, b'J'), c(2, b'K'), b(2, 2, 8, [
+        l(1, ADD, at), l(3, DELETE, 0), l(7, COPY, shared, (5, 1)), l(9, CHANGE, at + 1), l(30, COPY, at + 2, (3, 1))])]
+    release, released = [('release', 1, 1, 4, 9)], r(1, 4, 9)
+    plain = [(one, first), (two, first + second(2))]
+    between = [(one, first), (release, [*first, released]), (two, [*first, released, *second(2, 6)])]
+    behind = [*plain, (release, [*first, *second(2), released])]
+    for parts in (plain, between, behind):
+        desk = calls.Desk.fresh(engine, 10)
+        for some, wanted in parts:
+            for call in some:
+                desk.call(*call)
+            if desk.store != store(*wanted):
+                fail('the fresh store is not as listed')
+    for some, wanted in ((two, second(1)), (release + two, [released, *second(1, 6)]), (two + release, [*second(1), released])):
+        model = sheets.Machine(10)
+        for call in one:
+            model.call(*call)
+        desk = calls.Desk(engine, model, store(*older))
         for call in some:
             desk.call(*call)
-        if desk.store != store(*wanted):
-            fail('the fresh store is not as listed')
-    model = sheets.Machine(10)
-    for call in one:
-        model.call(*call)
-    desk = calls.Desk(engine, model, store(*older))
-    for call in two:
-        desk.call(*call)
-    if desk.store != store(*older, *second(1)):
-        fail('the store in another order is not as listed')
+        if desk.store != store(*older, *wanted):
+            fail('the store in another order is not as listed')
 
 
 def main():
@@ -454,7 +529,7 @@ def main():
             break
     by_hand(engine)
     if given.enough and not wrong():
-        for what in (*SHARED, *BETWEEN, *CUT, 'tails cleared'):
+        for what in (*SHARED, *BETWEEN, *CUT, *RELEASED, 'tails cleared'):
             if not seen[what]:
                 fail(f'the lists have none of: {what}')
         if seen['left out'] > given.lists // 10:

@@ -1,16 +1,17 @@
 #!/usr/bin/env python3
-"""W6 of document 02 through the engine's C library: the power fails at any block write of a commit or of a clearing.
+"""W6 of document 02 through the engine's C library: the power fails at any block write of a commit, of a clearing or, by W9, of a release.
 
 power.py [--seed N] [--lists N] [--only K]
 
-Random lists by four seats, on stores of 3 to 4,096 blocks; one of 2 has no room for a commit. At a commit that would be done, the blocks that it writes come from the engine's own cut calls with n = 0, 1, 2, ..: each write must change
-the one block that is due and none in use, and be the model's. Then for every write the stores that a power cut can leave: "Blocks already written are new, the block
-being written is old, new or junk with a wrong check, and blocks due later are still old." Of each found store every read, log, status and show must be as before
-the commit or, exactly if the commit block is new, as after it, with all four working copies as they were; a commit gives 14 exactly if there is a tail; and after 0
-to 5 clearings that are cut in the same way, clear must give the very bytes of the store before or of the finished one. The list goes on from one of the found stores.
-Clearings of the list are cut at every write likewise. Then a store of 4 blocks, commits of one sheet, of two and of a delete alone, and clearings of every tail, cut at
-every byte of every write. What was met is counted, and that some of it never came is a failure. At the first list that fails its seed and number are printed:
-`--seed N --only K` runs that list alone.
+Random lists by four seats, on stores of 3 to 4,096 blocks; one of 2 has no room for a commit. At a commit that would be done, the blocks that it writes come from
+the engine's own cut calls with n = 0, 1, 2, ..: each write must change the one block that is due and none in use, and be the model's. Then for every write the
+stores that a power cut can leave: "Blocks already written are new, the block being written is old, new or junk with a wrong check, and blocks due later are still
+old." Of each found store every read, log, status and show must be as before the commit or, exactly if the commit block is new, as after it, with all four working
+copies as they were; a commit gives 14 exactly if there is a tail; and after 0 to 5 clearings that are cut in the same way, clear must give the very bytes of the
+store before or of the finished one. The list goes on from one of the found stores. Clearings and releases of the list are cut at every write likewise; a release
+has one, and stands exactly if its block is new: every panel reading is as before it or as after it. Then a store of 4 blocks, commits of one sheet, of two and of a
+delete alone, a release, and clearings of every tail, cut at every byte of every write. What was met is counted, and that some of it never came is a failure. At the
+first list that fails its seed and number are printed: `--seed N --only K` runs that list alone.
 """
 import collections, functools, pathlib, random, sys
 
@@ -23,16 +24,20 @@ from engine import Engine
 SEATS = (1, 2, 3, 4)
 ZERO = bytes(512)
 KINDS = ('old', 'new', 'any', 'new and then old', 'old and then new', 'new with a bit flipped', 'old with a bit flipped', 'new with a bit of its check flipped', 'ones',
-         'zeros with a byte of the check', *(f'kind {k} and zeros' for k in (*range(1, 10), 255)), 'a later commit, its check off by one', 'new, its check off by one')
-SEALED = ('new with a bit flipped, sealed', 'a later commit', 'a content of the next revision')
+         'zeros with a byte of the check', *(f'kind {k} and zeros' for k in (*range(1, 10), 255)), 'a later commit, its check off by one',
+         'a release, its check off by one', 'new, its check off by one')
+SEALED = ('new with a bit flipped, sealed', 'a later commit', 'a content of the next revision', 'a release')
 COMMITS = ('the first content', 'a content between', 'the last content', 'the commit block', 'the only block')
 STORES = ('with the commit', 'without it', 'without a tail', 'content alone', 'content and junk', 'junk alone', '32 contents and junk', 'up to the last block')
 ON = ('old', 'new content', 'junk', 'the commit', 'the finished commit')
 OWNERS = ('refused with 11', 'agrees', 'has a delete, 12', 'nothing pending then, 10')
 ROW = ('none', *map(str, range(1, 6)))
-GROUPS = {'kinds at a commit': KINDS, 'kinds at a clearing': KINDS, 'with a right check': SEALED, 'writes of a commit': COMMITS,
+RELEASED = ('standing', 'not standing', 'without a tail', 'junk alone', 'behind a commit', 'behind a release', 'up to the last block', 'of an older revision')
+AFTER = ('old', 'new', 'junk', 'the finished release')
+GROUPS = {'kinds at a commit': KINDS, 'kinds at a clearing': KINDS, 'kinds at a release': KINDS, 'with a right check': SEALED, 'writes of a commit': COMMITS,
           'found stores': STORES, 'cut clearings in a row': ROW, 'lists went on from': ON, 'the owner of a finished commit': OWNERS,
-          'cut clearings in lists': ('old', 'new', 'junk')}
+          'cut clearings in lists': ('old', 'new', 'junk'), 'found after a release': RELEASED, 'lists went on from a release': AFTER,
+          'a release on a found store': ('done', *(f'refused with {n}' for n in (7, 13, 14, 16)))}
 seen = collections.Counter()
 
 
@@ -55,6 +60,7 @@ def kinds(rng, old, new, revision):
     """What can stand in a block that is to become new, by kind. Some have a right check."""
     at, check = rng.randrange(1, 512), rng.randrange(508, 512)
     later = layout.commit_block(revision + 1, rng.randint(1, 4), rng.getrandbits(32), [layout.line(i, 1, 1 + i) for i in range(rng.randint(1, 32))])
+    release = layout.release_block(rng.randint(1, max(1, revision - 1)), rng.randint(1, 4), rng.getrandbits(32))
     yield 'old', old
     yield 'new', new
     yield 'any', rng.randbytes(512)
@@ -68,10 +74,12 @@ def kinds(rng, old, new, revision):
     for kind in (*range(1, 10), 255):
         yield f'kind {kind} and zeros', bytes([kind]) + ZERO[1:]
     yield 'a later commit, its check off by one', off_by_one(later)
+    yield 'a release, its check off by one', off_by_one(release)
     yield 'new, its check off by one', off_by_one(new)
     yield 'new with a bit flipped, sealed', layout.sealed(flipped(rng, new, 508)[:508])
     yield 'a later commit', later
     yield 'a content of the next revision', layout.content(revision, b'')
+    yield 'a release', release
 
 
 def every_byte(old, new):
@@ -82,7 +90,7 @@ def every_byte(old, new):
         yield f'byte {at} flipped', new[:at] + bytes([new[at] ^ 1 << at % 8]) + new[at + 1:]
 
 
-# ---- every read, log, status and show
+# ---- every read, log, status and show, and panel readings
 
 @functools.lru_cache(5000)
 def record(*call):
@@ -90,14 +98,16 @@ def record(*call):
 
 
 class Looks:
-    """Every read and log of these sheets up to two revisions after the last, or of many revisions some, and every status and show: as a script, and what a machine
-    answers."""
+    """Every read and log of these sheets up to two revisions after the last, or of many revisions some, and every status and show; panel readings of all sheets at
+    two revisions, and at all of them of two sheets: as a script, and what a machine answers."""
 
     def __init__(self, rng, last, sheets, kept):
         self.sheets, self.kept = sheets, kept  # by revision, its commit and the answers at it: they stay while the commit does
         self.revisions = range(last + 3) if last < 30 else [0, 1, *sorted(rng.sample(range(2, last - 1), 4)), *range(last - 1, last + 3)]
         self.by_seats = [(name, k, i) for k in SEATS for name in ('status', 'show') for i in sheets]
-        self.calls = [c for r in self.revisions for c in self.of(r)] + self.by_seats
+        some, few = rng.sample(sorted(sheets), 2), [last, rng.randint(0, last)]
+        self.by_panels = [('panel', 1, r, i) for r in self.revisions for i in some] + [('panel', 1, r, i) for r in few for i in sheets]
+        self.calls = [c for r in self.revisions for c in self.of(r)] + self.by_seats + self.by_panels
         self.text = bytearray(b''.join(record(*c) for c in self.calls))
 
     def of(self, r):
@@ -110,7 +120,7 @@ class Looks:
         return self.kept[r][1]
 
     def answers(self, model):
-        return b''.join(self.at(model, r) for r in self.revisions) + b''.join(script.answer_record(model.call(*c)) for c in self.by_seats)
+        return b''.join(self.at(model, r) for r in self.revisions) + b''.join(script.answer_record(model.call(*c)) for c in self.by_seats + self.by_panels)
 
 
 class Stand:
@@ -137,18 +147,19 @@ class Test:
             fail(f'{what}: another byte {at % 512} of block {at // 512}')
 
     def tear(self, desk, call, kinds, writes=None, most=5):
-        """Cuts a commit or a clearing of the desk, which would be done, at these of its writes, with the block being written as `kinds(old, new)` says. The found
-        stores, each with the number of the write and old, new or junk. The desk stays."""
+        """Cuts a commit, a release or a clearing of the desk, which would be done, at these of its writes, with the block being written as `kinds(old, new)` says.
+        The found stores, each with the number of the write and old, new or junk. The desk stays."""
         model, store = desk.model, bytes(desk.store)
         stores = self.sequence(desk, call)
         if calls.failed:
             return []
         looks = Looks(self.rng, model.last(), self.sheets, self.kept)
         before, whole = Stand(lists.twin(model), layout.cleared(store), looks), None
-        if call[0] == 'commit':
+        if call[0] != 'clear':
             finished = lists.twin(model)
             finished.power(call, len(stores) - 2, 'new')
             whole = Stand(finished, stores[-1], looks)
+        if call[0] == 'commit':
             self.owner(whole, call)
         self.looks, self.copies = looks, b''.join(desk.copies.values())
         found = []
@@ -164,9 +175,12 @@ class Test:
                     continue
                 after = lists.twin(model)
                 after.power(call, n, state)
-                committed = after.last() > model.last()
-                self.count(call, n, len(stores) - 2, kind, state, committed, after)
-                self.found(what, torn, whole if committed else before, after.tail, most)
+                added = len(after.log) > len(model.log)
+                if call[0] == 'release':
+                    self.count_release(call, model, kind, state, after)
+                else:
+                    self.count(call, n, len(stores) - 2, kind, state, added, after)
+                self.found(what, torn, whole if added else before, after.tail, most)
                 found.append((n, state, torn))
         return found
 
@@ -182,8 +196,21 @@ class Test:
                                         after.tail and after.used + after.tail == after.blocks)):
             seen['found stores', what] += bool(there)
 
+    def count_release(self, call, model, kind, state, after):
+        """"a release standing or not": exactly if its block is new."""
+        if (len(after.log) > len(model.log), after.tail) != {'old': (False, 0), 'new': (True, 0), 'junk': (False, 1)}[state]:
+            fail(f'the model has another store after {call}, {state}')
+        seen['kinds at a release', kind] += 1
+        behind = isinstance(model.log[-1], sheets.Release)
+        for what, there in zip(RELEASED, (state == 'new', state != 'new', not after.tail, after.tail, not behind, behind, model.used + 1 == model.blocks,
+                                          call[2] < model.last())):
+            seen['found after a release', what] += bool(there)
+
     def sequence(self, desk, call):
-        """The stores after 0, 1, 2, .. writes, by the engine's cut calls. With n enough it is the usual call, answer and copy included."""
+        """The stores after 0, 1, 2, .. writes, by the engine's cut calls. With n enough it is the usual call, answer and copy included. A release has one write and
+        no cut call."""
+        if call[0] == 'release':
+            return self.one_write(desk, call)
         (name, seat, *args), model = call, desk.model
         blocks, usual = model.writes(call), lists.twin(model)
         answer, stores = usual.call(*call), []
@@ -202,6 +229,15 @@ class Test:
             if changed != [calls.due(model, call, n)] or changed[0] < model.used:
                 fail(f'{call}: write {n} changes {changed}')
         return stores
+
+    def one_write(self, desk, call):
+        store = bytearray(desk.store)
+        self.same(f'{call}', self.engine.release(store, *call[2:]), ('done',))
+        self.bytes_same(f'{call}, the store', store, calls.after(desk.model, desk.laid_out, call, 1))
+        changed = [k for k in range(desk.model.blocks) if store[k * 512:k * 512 + 512] != desk.store[k * 512:k * 512 + 512]]
+        if changed != [desk.model.used]:
+            fail(f'{call} changes {changed}')
+        return [bytes(desk.store), bytes(store)]
 
     def found(self, what, store, stand, tail, most=5):
         """A store that is found, with so many blocks of a tail: accepted, with the history of the stand; commit; cut clearings, and what clear then leaves."""
@@ -222,10 +258,11 @@ class Test:
             fail(f'{what}: looking changed a buffer')
 
     def committed(self, what, found, stand, tail):
-        """Commit, cut or not, by any seat: 14 exactly if there is a tail."""
-        seat = self.rng.choice(SEATS)
+        """Commit, cut or not, by any seat, and release: 14 exactly if there is a tail."""
+        seat, last = self.rng.choice(SEATS), stand.model.last()
         commit = ('commit', seat, self.rng.getrandbits(32), self.rng.choice([ALL, ALL, 0]))
-        for c in (commit, ('commit_cut', *commit[1:], self.rng.choice([0, 1, 33]))):
+        release = ('release', seat, self.rng.choice([last, last, self.rng.randint(0, last + 1)]), self.rng.choice([1, 2, 3, 4, 4, 5]), self.rng.getrandbits(32))
+        for c in (commit, ('commit_cut', *commit[1:], self.rng.choice([0, 1, 33])), release):
             store, copy = bytearray(found), bytearray(self.copies[(seat - 1) * layout.COPY_LEN:seat * layout.COPY_LEN])
             if tail:
                 wanted, wanted_store, wanted_copy = ('no', 14), found, bytes(copy)
@@ -233,6 +270,8 @@ class Test:
                 model = lists.twin(stand.model)
                 [wanted], wanted_store = calls.played(model, stand.store, [c])
                 wanted_copy = layout.copy_bytes(seat, model.seats[seat])
+            if c == release:
+                seen['a release on a found store', 'done' if wanted[0] == 'done' else f'refused with {wanted[1]}'] += 1
             self.same(f'{what}: {c}', self.engine.call(c[0], store, copy, *c[2:]), wanted)
             self.bytes_same(f'{what}: {c}, the store', store, wanted_store)
             self.bytes_same(f'{what}: {c}, the copy', copy, wanted_copy)
@@ -269,7 +308,8 @@ class Test:
         """A block that is neither old nor new and has a right check: a call refuses and changes nothing, or does as the model does."""
         seen['with a right check', kind] += 1
         seat = self.rng.choice(SEATS)
-        for c in [('read', desk.model.last(), 5), ('clear',), ('clear_cut', 1), ('commit', 7, ALL), ('commit_cut', 7, ALL, 1), ('status', 5)]:
+        for c in [('read', desk.model.last(), 5), ('clear',), ('clear_cut', 1), ('commit', 7, ALL), ('commit_cut', 7, ALL, 1), ('status', 5),
+                  ('panel', desk.model.last(), 5), ('release', desk.model.last(), 3, 9)]:
             calls.on_buffers(self.engine, f'{what}: {c}', c[0], c[1:], bytearray(store), bytearray(desk.copies[seat]))
 
     def owner(self, whole, call):
@@ -310,6 +350,28 @@ class Test:
         desk.model.power(call, n, state)
         desk.store[:] = desk.laid_out = store
 
+    def release(self, desk, call):
+        """A release of a list, cut likewise; the list then goes on from one of the found stores, or with the release done."""
+        found = self.tear(desk, call, self.some_kinds(desk.model.last() + 1))
+        if calls.failed:
+            return
+        if self.rng.random() < 0.3:
+            seen['lists went on from a release', 'the finished release'] += 1
+            desk.call(*call)
+            return
+        how = self.rng.choice(['old', 'new', 'junk'])
+        seen['lists went on from a release', how] += 1
+        n, state, store = self.rng.choice([x for x in found if x[1] == how])
+        desk.model.power(call, n, state)
+        desk.store[:] = desk.laid_out = store
+
+    def do(self, desk, c):
+        """A call of a list. A commit or a release that is done is cut everywhere."""
+        if c[0] in ('commit', 'release') and desk.model.writes(c):
+            (self.commit if c[0] == 'commit' else self.release)(desk, c)
+        else:
+            desk.call(*c)
+
     def clear(self, desk):
         """Clears the tail of a list's store, now and then cut everywhere."""
         while desk.model.tail and self.rng.random() < 0.6:
@@ -346,18 +408,16 @@ class Test:
         desk = calls.Desk.fresh(self.engine, {1: 100, 2: 4096}.get(number) or rng.choice([3, 4, 5, 8, 12, 20, 40, 65, 200, 600]))
         for n in range(1 if number == 1 else rng.choice([3, 5, 7])):
             for _ in range(rng.choice([0, 2, 6])):
-                c = lists.random_call(rng, desk.model)
-                if c[0] == 'commit' and desk.model.writes(c):
-                    self.commit(desk, c)
-                else:
-                    desk.call(*c)
+                self.do(desk, lists.random_call(rng, desk.model))
             if desk.model.tail:
                 self.clear(desk)
-            c = self.work(desk, 32 if number == 1 else rng.choice([1, 1, 2, 3, 6]))
-            if desk.model.writes(c):
-                self.commit(desk, c)
-            else:
-                desk.call(*c)
+            self.do(desk, self.work(desk, 32 if number == 1 else rng.choice([1, 1, 2, 3, 6])))
+            for _ in range(rng.choice([0, 0, 1, 2])):
+                if desk.model.tail:
+                    self.clear(desk)
+                left = [r for r in range(1, desk.model.last() + 1) if r not in sheets.released(desk.model.log)]
+                if left:
+                    self.do(desk, ('release', 1, rng.choice([left[-1], rng.choice(left)]), rng.choice(SEATS), rng.getrandbits(32)))
             if calls.failed:
                 return
         if desk.model.tail:
@@ -367,13 +427,14 @@ class Test:
     def largest(self):
         """A store of 4,096 blocks with room for just one commit of 32 sheets; cut at some of its writes."""
         model = sheets.Machine(4096)
-        model.history = [(1, n, {5: (sheets.CHANGE if n else sheets.ADD, b'%d' % n, None)}) for n in range(2031)]
+        model.log = [(1, n, {5: (sheets.CHANGE if n else sheets.ADD, b'%d' % n, None)}) for n in range(2031)]
         model.used = 4063
         model.seats[4] = [('added', b'%d' % i) for i in range(32)]
         model.seats[4][5] = ('normal', model.last(), b'5')
-        desk = calls.Desk(self.engine, model, layout.store_bytes(4096, model.history))
+        desk = calls.Desk(self.engine, model, layout.store_bytes(4096, model.log))
         sample = lambda old, new: [x for x in kinds(self.rng, old, new, model.last() + 1) if x[0] in ('old', 'new') or x[0] not in SEALED and self.rng.random() < 0.4]
         self.tear(desk, ('commit', 4, 7, ALL), sample, [0, 1, 31, 32], 2)
+        self.tear(desk, ('release', 1, 2031, 4, 7), sample, None, 2)
 
 
 # ---- every byte
@@ -387,12 +448,14 @@ def small(engine, some):
 
 
 def exhaustive(engine, rng):
-    """A store of 4 blocks: commits of one sheet, of two and of a delete alone, at every write the block cut at every byte; then every tail, cleared likewise."""
+    """A store of 4 blocks: commits of one sheet, of two and of a delete alone, and a release, at every write the block cut at every byte; then every tail, cleared
+    likewise."""
     test = Test(engine, rng, (0, 5, 6, 9, 31, 32))
     one, two, delete = [('add', 1, 5, b'A')], [('add', 1, 5, b''), ('add', 1, 9, bytes(range(1, 256)) + bytes(range(225)))], [('delete', 1, 5)]
     commit = ('commit', 1, 7, ALL)
     for some in (one, two, [*one, commit, *delete]):
         test.tear(small(engine, some), commit, every_byte, None, 1)
+    test.tear(small(engine, [*one, commit]), ('release', 1, 1, 3, 9), every_byte, None, 1)
     content = [layout.content(1, data) for data in (b'A', b'', bytes(range(1, 256)) + bytes(range(225)))]
     wrong = [layout.label()[:-1] + b'\xff', b'\xff' * 512, content[0][:100] + ZERO[100:]]
     for tail in ([content[0]], [content[2], content[0]], [wrong[0]], [content[1], wrong[1]], [content[0], content[2], content[1]], [content[2], content[1], wrong[2]]):
@@ -414,7 +477,8 @@ def main():
     never = lists.group_tally(given.enough and not calls.failed, GROUPS, seen)
     stores = sum(seen['found stores', what] for what in STORES[:2])
     cut = sum(count for (group, *_), count in seen.items() if group == 'kinds at a clearing')
-    print(f'{stores} stores found after a commit was cut, {cut} after a clearing was, {calls.failed} wrong')
+    released = sum(seen['found after a release', what] for what in RELEASED[:2])
+    print(f'{stores} stores found after a commit was cut, {cut} after a clearing was, {released} after a release was, {calls.failed} wrong')
     sys.exit(calls.failed + never != 0)
 
 

@@ -3,11 +3,11 @@
 
 replay.py [--seed N] [--lists N] [--only K]
 
-Lists of random calls by four seats, cut commits and clearings among them, in several scripts on one desk and in one script on another; or in several scripts, and the
-store is found with a tail between them. What a record has no use for holds anything, and so does what the answers have beyond the script. Then damaged buffers,
-with and without a tail, and bad scripts: the first refusal by tests/model/accept.py and nothing changed, or the model's run. Then every fault alone and every two of
-them, scripts that begin on a tail, cut calls in records written by hand, and the worked script of docs/LAYOUT.md. What the calls met of W2, W3, W5 and W6 is counted
-as in tests/calls.py.
+Lists of random calls by four seats, cut commits and clearings, releases and panel readings among them, in several scripts on one desk and in one script on another;
+or in several scripts, and the store is found with a tail between them. What a record has no use for holds anything, and so does what the answers have beyond the
+script. Then damaged buffers, with and without a tail, and bad scripts: the first refusal by tests/model/accept.py and nothing changed, or the model's run. Then
+every fault alone and every two of them, scripts that begin on a tail, cut calls, releases and panel readings in records written by hand, and the worked script of
+docs/LAYOUT.md. What the calls met of W2, W3, W5, W6 and W9 is counted as in tests/calls.py.
 At the first list that fails its seed and number are printed: `--seed N --only K` runs that list alone.
 """
 import itertools, pathlib, random, re, sys
@@ -20,6 +20,7 @@ from engine import Engine
 
 SEATS = (1, 2, 3, 4)
 ALL = 0xffffffff
+NO_KINDS = (0, 16, 17, 18, 19, 22, 255)  # of a call's record; 16 to 19 are calls on the turn record and commits through it, which no script has
 scripts = calls = failed = 0
 
 
@@ -78,7 +79,7 @@ class Desk:
 
     def held_to(self, what, model, store=None):
         """Every byte of the layouts that the calls write: on a fresh store that of the history, on another one the store given."""
-        if self.store != (store or layout.store_bytes(model.blocks, model.history)):
+        if self.store != (store or layout.store_bytes(model.blocks, model.log)):
             fail(f'{what} leaves another store')
         for k, copy in cut(self.copies).items():
             if copy != layout.copy_bytes(k, model.seats[k]):
@@ -117,7 +118,7 @@ def random_list(engine, rng):
         desk.replay(f'script {n}', text, answers, rng.randbytes(rng.choice([0, 1, 511, 512, 1000])))
         desk.held_to(f'script {n}', model, store)
         whole, said = whole + text, said + answers
-    if layout.cleared(store) != layout.store_bytes(blocks, model.history):
+    if layout.cleared(store) != layout.store_bytes(blocks, model.log):
         fail('the scripts leave another layout of the history')
     if not tails:
         other = Desk.fresh(engine, blocks)
@@ -147,7 +148,7 @@ def bad_script(rng, text):
     at = rng.randrange(len(text) // 512) * 512
     fault = rng.choice(['kind', 'seat', 'bytes', 'length'])
     if fault == 'kind':
-        text[at] = rng.choice([0, 16, 255])
+        text[at] = rng.choice(NO_KINDS)
     elif fault == 'seat':
         text[at + 1] = rng.choice([0, 5, 255])
     elif fault == 'bytes':
@@ -182,7 +183,7 @@ def damaged(engine, rng, good, model):
             desk.refused(what, text, answers, number)
             continue
         accepted = sheets.Machine(len(store) // 512)
-        accepted.history, accepted.used, accepted.tail = layout.history_of(bytes(store))
+        accepted.log, accepted.used, accepted.tail = layout.log_of(bytes(store))
         accepted.seats = {k: layout.entries_of(c) for k, c in copies.items()}
         said, wanted = played(accepted, bytes(store), some)
         desk.replay(what, text, said)
@@ -226,8 +227,8 @@ def faults():
                 (f'copy {k}', 7, in_copy(k, 0, layout.sealed([4, k % 4 + 1])))]
     bad = [lambda b: b[:-1], lambda b: b + bytes(1), lambda b: b[:1], lambda b: b + bytes(512)]
     for record in (0, 1, 2):
-        bad += [changed(512 * record, bytes([kind])) for kind in (0, 16, 255)]
-        for kind in (13, 14, 15):
+        bad += [changed(512 * record, bytes([kind])) for kind in NO_KINDS]
+        for kind in (13, 14, 15, 20, 21):
             bad += [changed(512 * record, bytes([kind, seat])) for seat in (0, 5)] + [changed(512 * record, bytes([kind, 1]) + layout.two(497))]
         bad += [changed(512 * record + 1, bytes([seat])) for seat in (0, 5, 255)]
         bad += [changed(512 * record + 2, layout.two(n)) for n in (497, 65535)]
@@ -240,7 +241,7 @@ def one_revision(blocks=8):
     model = sheets.Machine(blocks)
     model.call('add', 2, 5, b'A')
     model.call('commit', 2, 7, 1 << 5)
-    return model, layout.store_bytes(blocks, model.history), b''.join(layout.copy_bytes(k, model.seats[k]) for k in SEATS)
+    return model, layout.store_bytes(blocks, model.log), b''.join(layout.copy_bytes(k, model.seats[k]) for k in SEATS)
 
 
 def every_fault(engine):
@@ -306,6 +307,32 @@ def cut_calls(engine):
             fail('the records by hand leave another tail')
 
 
+def releases(engine):
+    """Records of releases and panel readings by hand: kind 20 has the revision in bytes 4-7, the stamp in 8-11 and the seat in 12-15, kind 21 revision and sheet."""
+    record = lambda *head: bytes(head).ljust(512, b'\0')
+    four = lambda n: n.to_bytes(4, 'little')
+    release = lambda revision, stamp, seat, by=1: record(20, by, 0, 0, *four(revision), *four(stamp), *four(seat))
+    panel = lambda revision, sheet, by=1: record(21, by, 0, 0, *four(revision), *four(sheet))
+    part = lambda number, *data: record(*[0] * 8, number, *[0] * 19, len(data), 0, 0, 0, *data)
+    add, edit, zeros = record(1, 2, 1, 0, 5, *[0] * 11, 65), record(2, 2, 1, 0, 5, *[0] * 11, 66), record()
+    commit, cut = (record(kind, 2, 0, 0, 7, 0, 0, 0, 255, 255, 255, 255, *n) for kind, n in ((6, ()), (14, (1,))))
+    rows = [(release(1, 9, 3), record(7)), (panel(0, 5), record(8)), (add, zeros), (commit, record(0, 0, 0, 0, 1)), (panel(1, 5), record(8)),
+            (release(0, 9, 3), record(7)), (release(2, 9, 3), record(7)), (release(65537, 9, 3), record(7)), (release(1, 9, 0, 3), record(7)),
+            (release(1, 9, 5, 3), record(7)), (release(1, 9, 257), record(7)), (edit, zeros), (cut, record(*[0] * 8, 1)), (release(1, 9, 3), record(14)),
+            (release(0, 9, 0), record(14)), (panel(1, 5), record(8)), (record(13, 1), zeros), (release(1, 2 ** 32 - 2, 3, 4), zeros), (panel(1, 5, 4), part(1, 65)),
+            (panel(0, 5), record(8)), (panel(1, 6), record(8)), (panel(1, 32), record(7)), (panel(2, 5), record(7)), (release(1, 9, 3), record(16)),
+            (release(1, 9, 0), record(7)), (commit, record(0, 0, 0, 0, 2)), (panel(2, 5), part(1, 65)), (record(9, 1, 0, 0, 2, 0, 0, 0, 5), part(2, 66)),
+            (release(2, 0, 4), record(13)), (release(1, 0, 4), record(16)), (release(2, 0, 5), record(7))]
+    text, wanted = (b''.join(column) for column in zip(*rows))
+    desk, answers = Desk.fresh(engine, 6), bytearray(b'\x5a' * len(text))
+    if engine.replay(text, desk.store, desk.copies, answers) != ('done',) or answers != wanted:
+        fail('the records of releases by hand')
+    model = one_revision(6)[0]
+    for c in (('release', 1, 1, 3, 2 ** 32 - 2), ('edit', 2, 5, b'B'), ('commit', 2, 7, ALL)):
+        model.call(*c)
+    desk.held_to('the records of releases by hand', model)
+
+
 def example(engine):
     """The worked script of docs/LAYOUT.md, byte by byte as its table has it."""
     def record(cell):
@@ -340,8 +367,9 @@ def main():
     every_fault(engine)
     on_tails(engine)
     cut_calls(engine)
+    releases(engine)
     example(engine)
-    never = lists.tally(given.enough and not failed, [r for r in lists.COUNTED if r not in (lists.FIRST, lists.DAMAGED, *lists.TURNS)])
+    never = lists.tally(given.enough and not failed, [r for r in lists.COUNTED if r not in (lists.FIRST, lists.DAMAGED, *lists.TURNS, lists.RELEASE_DAMAGED)])
     print(f'{scripts} scripts, {calls} calls done, {failed} wrong')
     sys.exit(failed + never != 0)
 

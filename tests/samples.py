@@ -1,6 +1,6 @@
 #!/usr/bin/env python3
-"""Lists and calls with known answers, on the engine's C library and on tests/model: samples that were made elsewhere, and lists written by hand from W2, W3, W5, W6
-and W7.
+"""Lists and calls with known answers, on the engine's C library and on tests/model: samples that were made elsewhere, and lists written by hand from W2, W3, W5, W6,
+W7 and W9.
 
 samples.py FILE..
 
@@ -46,11 +46,10 @@ def by_calls(engine, what, blocks, some, answers):
 
 
 def torn(engine, desk, call, n, how):
-    """A store after a power cut at the call's block write n, by the cut calls alone."""
-    name, seat, *args = call
+    """A store after a power cut at the call's block write n, by the cut calls, or the release, alone."""
     stores = [bytearray(desk.store), bytearray(desk.store)]
     for k in (0, 1):
-        engine.call(f'{name}_cut', stores[k], replay.cut(desk.copies)[seat], *args, n + k)
+        calls.cut_by(engine, call, stores[k], replay.cut(desk.copies)[call[1]], n + k)
     place = next(k for k in range(len(desk.store) // 512) if stores[0][k * 512:k * 512 + 512] != stores[1][k * 512:k * 512 + 512])
     return {'old': stores[0], 'new': stores[1], 'junk': calls.with_block(bytes(stores[0]), place, WRONG)}[how]
 
@@ -87,8 +86,8 @@ def by_script(engine, what, blocks, some, answers):
 
 def ends(what, end, wanted, store, copies, turn):
     """What the buffers and the record hold at the end of a list."""
-    history, used, tail = layout.history_of(store)
-    if (used, tail, history, {k: layout.entries_of(c) for k, c in copies.items()}, tuple(turn)) != wanted:
+    log, used, tail = layout.log_of(store)
+    if (used, tail, log, {k: layout.entries_of(c) for k, c in copies.items()}, tuple(turn)) != wanted:
         fail(f'{what}: another end')
     digest = lambda buffer: hashlib.sha256(buffer).hexdigest()
     if {'store': None if tail else digest(store), 'copies': [digest(c) for c in copies.values()]} != end['sha256']:
@@ -125,7 +124,7 @@ def answered(engine, what, name, args, store, copy, turn):
     if name in turns.CALLS:
         return calls.on_record(engine, what, name, args, turn)
     answer = calls.on_buffers(engine, what, name, args, store, copy, turn)
-    if name in ('read', 'show'):
+    if name in ('read', 'show', 'panel'):
         return engine.part(name, store, copy, *args)
     if answer[0] == 'log':
         action, source = answer[4] or (0, None)
@@ -146,7 +145,7 @@ def from_cases(engine, path):
             fail(f'{what} leaves other buffers or another record')
 
 
-# ---- W2, W3, W5, W6 and W7 by hand
+# ---- W2, W3, W5, W6, W7 and W9 by hand
 
 START = [(('add', 1, 4, b'A'), 'done'), (('add', 1, 5, b'A'), 'done'), (('add', 1, 6, b'A'), 'done'), (('commit', 1, 7, ALL), 'revision 1'),
          (('update', 2, ALL, 1), 'done')]
@@ -179,6 +178,16 @@ def take(holder):
 def through(seat, said, mask=ALL):
     """A commit through the turn record."""
     return ('turn_commit', seat, 7, mask), said
+
+
+def release(revision, said='done', seat=3, stamp=9):
+    """The release of a revision."""
+    return ('release', 1, revision, seat, stamp), said
+
+
+def panel(revision, sheet, said):
+    """What a panel finds: bytes and W3's number, or the refusal."""
+    return ('panel', 1, revision, sheet), f'no {said}' if isinstance(said, int) else ('bytes', *said)
 
 
 TWO = [(('add', 1, 5, b'A'), 'done'), (('add', 1, 9, b'B'), 'done')]  # a commit of two content blocks and the commit block
@@ -458,6 +467,60 @@ BY_HAND = {
         ask(1, 1), ask(2, 1), cut(('commit', 1, 7, ALL), 1, 'junk'), through(1, 'no 14'), (('clear', 1), 'done'), cut(('commit', 1, 7, ALL), 2, 'new'),
         through(1, 'no 11'), ask(1, 1), (('update', 1, ALL, 1), 'done'), through(1, 'no 10'), give(1, 2), (('add', 2, 5, b'A'), 'done'), through(2, 'no 11'),
         (('update', 2, ALL, 1), 'done'), (('edit', 2, 5, b'C'), 'done'), through(2, 'revision 2'), give(2, 0)],
+    # W9
+    'nothing released': [
+        panel(0, 5, 8), panel(1, 5, 7), panel(0, 32, 7), release(0, 'no 7'), release(1, 'no 7'), *START, panel(0, 5, 8), panel(1, 5, 8), panel(2, 5, 7), panel(1, 31, 8),
+        panel(1, 32, 7), (('read', 1, 1, 5), ('bytes', b'A', 1))],
+    'released one after the other': START + [
+        (('edit', 1, 5, b'B'), 'done'), (('commit', 1, 8, ALL), 'revision 2'), (('edit', 1, 5, b'C'), 'done'), (('commit', 1, 9, ALL), 'revision 3'), panel(3, 5, 8),
+        release(2), panel(0, 5, 8), panel(1, 5, 8), panel(2, 5, (b'B', 2)), panel(3, 5, (b'B', 2)), panel(2, 4, (b'A', 1)), panel(4, 5, 7),
+        (('read', 1, 3, 5), ('bytes', b'C', 3)), (('read', 1, 1, 5), ('bytes', b'A', 1)), release(3), panel(1, 5, 8), panel(2, 5, (b'B', 2)), panel(3, 5, (b'C', 3)),
+        panel(3, 4, (b'A', 1)), release(1), panel(0, 5, 8), panel(1, 5, (b'A', 1)), panel(2, 5, (b'B', 2)), panel(3, 5, (b'C', 3)),
+        *(release(r, 'no 16') for r in (1, 2, 3)), (('log', 1, 3, 5), ('log', 1, 9, 1, (2, None)))],
+    'a later release of an older revision': START + [
+        *((c, said) for r in range(2, 7) for c, said in ((('edit', 1, 5, b'%d' % r), 'done'), (('commit', 1, r, ALL), f'revision {r}'))),
+        release(5), *(panel(r, 5, 8) for r in range(5)), *(panel(r, 5, (b'5', 5)) for r in (5, 6)), release(2), *(panel(r, 5, 8) for r in (0, 1)),
+        *(panel(r, 5, (b'2', 2)) for r in (2, 3, 4)), *(panel(r, 5, (b'5', 5)) for r in (5, 6)), release(3), panel(2, 5, (b'2', 2)), panel(3, 5, (b'3', 3)),
+        panel(4, 5, (b'3', 3)), panel(5, 5, (b'5', 5)), panel(6, 5, (b'5', 5)), panel(6, 4, (b'A', 1)), panel(7, 5, 7)],
+    'sheets that come and go': [
+        (('add', 1, 5, b'A'), 'done'), (('commit', 1, 7, ALL), 'revision 1'), release(1), (('delete', 1, 5), 'done'), (('add', 1, 6, b''), 'done'),
+        (('commit', 1, 8, ALL), 'revision 2'), panel(2, 5, (b'A', 1)), panel(2, 6, 8), (('read', 1, 2, 5), 'no 8'), (('read', 1, 2, 6), ('bytes', b'', 2)), release(2),
+        panel(1, 5, (b'A', 1)), panel(1, 6, 8), panel(2, 5, 8), panel(2, 6, (b'', 2)), (('add', 1, 5, b'B'), 'done'), (('commit', 1, 9, ALL), 'revision 3'),
+        panel(3, 5, 8), panel(3, 6, (b'', 2)), (('show', 2, 5), ('bytes', b'B', 3)), (('move', 1, 6, 8), 'done'), (('commit', 1, 10, ALL), 'revision 4'), release(3),
+        panel(4, 5, (b'B', 3)), panel(4, 6, (b'', 2)), panel(4, 8, 8), release(4), panel(4, 6, 8), panel(4, 8, (b'', 4)), panel(3, 6, (b'', 2))],
+    'releases refused': START + [
+        release(0, 'no 7'), release(2, 'no 7'), *(release(r, 'no 7') for r in (257, 65536, 65537, 2 ** 31 + 1, 2 ** 32 - 1)),
+        *(release(1, 'no 7', k) for k in (0, 5, 255, 256, 257, 65537, 2 ** 31 + 1, 2 ** 32 - 1)), release(0, 'no 7', 0), release(1, 'done', 4, 2 ** 32 - 1),
+        release(1, 'no 16'), release(1, 'no 16', 1, 0), release(1, 'no 7', 0), release(1, 'no 7', 5), release(2, 'no 7'), release(0, 'no 7'),
+        (('edit', 1, 5, b'B'), 'done'), (('commit', 1, 8, ALL), 'revision 2'), release(1, 'no 16'), release(2, 'done', 1, 0), release(2, 'no 16'), release(3, 'no 7'),
+        *(panel(r, i, 7) for r, i in ((3, 5), (65536, 5), (65537, 5), (2 ** 32 - 1, 5), (2, 32), (2, 256), (2, 261), (2, 2 ** 32 - 1)))],
+    'releases beside a tail': START + [
+        release(1), (('edit', 1, 5, b'B'), 'done'), (('commit', 1, 8, ALL), 'revision 2'), (('edit', 1, 5, b'C'), 'done'), (('commit_cut', 1, 9, ALL, 1), 'stopped'),
+        *(release(r, 'no 14', k) for r, k in ((2, 3), (1, 3), (0, 3), (3, 3), (2, 0), (1, 5))), panel(2, 5, (b'A', 1)), panel(0, 5, 8), panel(3, 5, 7),
+        (('clear_cut', 1, 0), 'stopped'), release(2, 'no 14'), (('clear', 1), 'done'), panel(1, 5, (b'A', 1)), release(1, 'no 16'), release(2), found(WRONG),
+        release(2, 'no 14'), panel(2, 5, (b'B', 2)), (('clear', 2), 'done'), release(2, 'no 16'), panel(2, 5, (b'B', 2)), (('commit', 1, 9, ALL), 'revision 3'),
+        found(layout.content(4, b'')), release(3, 'no 14'), (('clear', 1), 'done'), release(3), panel(3, 5, (b'C', 3))],
+    'no room for a release': START + [
+        *((('add', 4, i, b'X'), 'done') for i in range(7, 31)), (('commit', 4, 8, ALL), 'revision 2'), release(2), panel(2, 30, (b'X', 2)), (('delete', 1, 4), 'done'),
+        (('commit', 1, 9, 1 << 4), 'revision 3'), release(1, 'no 13'), release(3, 'no 13'), release(2, 'no 16'), release(4, 'no 7'), release(0, 'no 7'),
+        release(1, 'no 7', 5), panel(3, 4, (b'A', 1)), panel(1, 4, 8), (('delete', 1, 5), 'done'), (('commit', 1, 10, 1 << 5), 'no 13'), (('clear', 1), 'done')],
+    'what engineers find beside releases': START + [
+        (('status', 2, 5), 'status 1 1'), release(1), (('status', 2, 5), 'status 1 1'), (('status', 1, 5), 'status 1 1'), (('read', 1, 1, 5), ('bytes', b'A', 1)),
+        (('read', 1, 2, 5), 'no 7'), (('log', 1, 1, 5), ('log', 1, 7, 3, (1, None))), (('log', 1, 2, 5), 'no 7'), (('update', 2, ALL, 2), 'no 7'),
+        (('commit', 2, 8, ALL), 'no 10'), (('edit', 2, 5, b'B'), 'done'), (('commit', 2, 8, ALL), 'revision 2'), (('copy', 1, 6, 9), 'done'),
+        (('commit', 1, 9, ALL), 'revision 3'), (('log', 1, 3, 9), ('log', 1, 9, 1, (4, (6, 1)))), release(3), release(2), (('status', 1, 5), 'status 3 2'),
+        (('edit', 1, 5, b'C'), 'done'), (('commit', 1, 10, ALL), 'no 11'), (('update', 1, ALL, 3), 'no 12'), (('read', 1, 3, 9), ('bytes', b'A', 3)),
+        panel(3, 9, (b'A', 3)), panel(2, 9, 8), panel(2, 5, (b'B', 2)), (('show', 3, 5), ('bytes', b'B', 2))],
+    'releases and turns': START + [
+        ask(2, 2), release(1, 'done', 4), (('edit', 2, 5, b'B'), 'done'), through(1, 'no 15'), through(2, 'revision 2'), release(2, 'done', 2), give(2, 0),
+        panel(2, 5, (b'B', 2)), panel(1, 5, (b'A', 1))],
+    'the power fails within a release': START + [
+        cut(('release', 1, 1, 3, 9), 0, 'old'), panel(1, 5, 8), (('clear_cut', 1, 0), 'done'), cut(('release', 1, 1, 3, 9), 0, 'junk'), panel(1, 5, 8),
+        (('read', 1, 1, 5), ('bytes', b'A', 1)), release(1, 'no 14'), (('commit', 1, 8, ALL), 'no 14'), (('clear_cut', 1, 0), 'stopped'), cut(('clear', 1), 0, 'junk'),
+        release(1, 'no 14'), (('clear_cut', 1, 1), 'done'), panel(1, 5, 8), cut(('release', 1, 1, 3, 9), 0, 'new'), panel(1, 5, (b'A', 1)), release(1, 'no 16'),
+        (('clear_cut', 1, 0), 'done'), (('edit', 1, 5, b'B'), 'done'), cut(('commit', 1, 8, ALL), 1, 'junk'), panel(1, 5, (b'A', 1)), (('clear', 1), 'done'),
+        panel(1, 5, (b'A', 1)), (('commit', 1, 8, ALL), 'revision 2'), cut(('release', 1, 2, 1, 0), 0, 'junk'), panel(2, 5, (b'A', 1)), (('clear', 1), 'done'),
+        release(2), panel(2, 5, (b'B', 2))],
 }
 LONG = {  # on a larger store
     'past revision 255': START + [
@@ -465,7 +528,11 @@ LONG = {  # on a larger store
         (('edit', 1, 5, b'B'), 'done'), (('commit', 1, 8, ALL), 'revision 256'), (('edit', 1, 4, b'B'), 'done'), (('commit', 1, 9, ALL), 'revision 257'),
         (('status', 2, 4), 'status 3 257'), (('status', 2, 5), 'status 3 256'), (('status', 2, 6), 'status 1 1'), (('show', 3, 5), ('bytes', b'B', 256)),
         (('read', 1, 257, 5), ('bytes', b'B', 256)), (('read', 1, 255, 5), ('bytes', b'A', 1)), (('read', 1, 256, 4), ('bytes', b'255', 255)),
-        (('read', 1, 257, 4), ('bytes', b'B', 257)), (('read', 1, 257, 6), ('bytes', b'A', 1))],
+        (('read', 1, 257, 4), ('bytes', b'B', 257)), (('read', 1, 257, 6), ('bytes', b'A', 1)),
+        release(256), release(0, 'no 7'), release(258, 'no 7'), release(65536 + 257, 'no 7'), panel(255, 4, 8), panel(256, 4, (b'255', 255)), panel(257, 4, (b'255', 255)),
+        panel(257, 5, (b'B', 256)), release(1), panel(1, 4, (b'A', 1)), panel(255, 4, (b'A', 1)), panel(257, 4, (b'255', 255)), release(257), release(257, 'no 16'),
+        panel(256, 4, (b'255', 255)), panel(257, 4, (b'B', 257)), panel(258, 4, 7), (('edit', 1, 4, b'C'), 'done'), (('commit', 1, 10, ALL), 'revision 258'),
+        panel(258, 4, (b'B', 257)), (('read', 1, 258, 4), ('bytes', b'C', 258))],
 }
 
 

@@ -1,8 +1,9 @@
 #!/usr/bin/env python3
-"""Stores handed to the engine, good and bad, each with the answer that document 01 and W5 of document 02 fix.
+"""Stores handed to the engine, good and bad, each with the answer that document 01 and W5 and W9 of document 02 fix.
 
-Lengths; every single-byte change of a good store (2, 3 or a tail, by the block); each rule of "Blocks" broken in a resealed store (3); histories in
-sheet order and in others, read back at every revision. Nothing may change in a buffer that is only read. Tails are in tests/tails.py.
+Lengths; every single-byte change of a good store (2, 3 or a tail, by the block); each rule of "Blocks" and of the release block broken in a resealed store (3);
+histories in sheet order and in others, read back at every revision, by panels too. Nothing may change in a buffer that is only read. Tails are in tests/tails.py,
+releases at every place in tests/releases.py.
 """
 import pathlib, random, sys
 
@@ -57,23 +58,28 @@ def lengths(engine):
 
 
 def single_bytes(engine):
-    """Each byte changed of a store with two commits. Refusal 2 skips "the last block that isn't all zero", so in block 3, which is commit 2, and in block 4, which is
-    a zero block, it makes a tail; in block 5 it stands behind a zero block."""
-    h = [(2, 7, {5: (1, b'A', None)}), (2, 8, {5: (3, None, None), 6: (4, b'A', (5, 1))})]
-    good = layout.store_bytes(6, h)
-    wanted = [2, 2, 2, 0, 0, 3]
-    last = {3: 1, 4: 2}
-    expect('the good store', refusal(engine, bytearray(good)), 0)
-    for k in range(len(good)):
-        store, block = bytearray(good), k // 512
-        store[k] ^= 1 + k % 255
-        expect(f'byte {k} changed', refusal(engine, store), wanted[block])
-        if block in last:
-            expect(f'byte {k} changed, the last revision', [engine.log(store, r, 6)[0] for r in (1, 2, 3)], ['log' if r <= last[block] else 'no' for r in (1, 2, 3)])
+    """Each byte changed of a store with two commits, and of one with a release between them and one behind them. Refusal 2 skips "the last block that isn't all
+    zero", so in the last of these, and in the zero block behind it, it makes a tail; in the next block it stands behind a zero block."""
+    one, two = (2, 7, {5: (1, b'A', None)}), (2, 8, {5: (3, None, None), 6: (4, b'A', (5, 1))})
+    # the store, the block of the last commit or release, the last revision and what a panel finds there if that block is changed, and if the next one is
+    for what, log, end, before, after in (('', [one, two], 3, (1, 8), (2, 8)),
+                                          (' with releases', [one, sheets.Release(1, 4, 9), two, sheets.Release(2, 1, 0)], 5, (2, 8), (2, b'A'))):
+        good = layout.store_bytes(end + 3, log)
+        wanted = [2] * end + [0, 0, 3]
+        expect(f'the good store{what}', refusal(engine, bytearray(good)), 0)
+        for k in range(len(good)):
+            store, block = bytearray(good), k // 512
+            store[k] ^= 1 + k % 255
+            expect(f'byte {k} changed{what}', refusal(engine, store), wanted[block])
+            if block in (end, end + 1):
+                last, found = before if block == end else after
+                logged = [engine.log(store, r, 6)[0] for r in (1, 2, 3)]
+                expect(f'byte {k} changed{what}, the last revision', logged, ['log' if r <= last else 'no' for r in (1, 2, 3)])
+                expect(f'byte {k} changed{what}, a panel', engine.panel(store, last, 6), ('no', found) if found == 8 else ('bytes', found, last))
 
 
 def broken_rules(engine):
-    c, b, l = layout.content, layout.commit_block, layout.line
+    c, b, l, r = layout.content, layout.commit_block, layout.line, layout.release_block
     one = [layout.label(), c(1, b'A'), b(1, 2, 7, [l(5, 1, 1)])]
     two = one + [c(2, b'B'), b(2, 2, 8, [l(5, 2, 3)])]
     pair = [c(2, b'1'), c(2, b'2')]
@@ -86,6 +92,12 @@ def broken_rules(engine):
         'contents in another order': one + pair + [b(2, 2, 8, [l(6, 1, 4), l(7, 1, 3)])],
         'a change to the same bytes': one + [c(2, b'A'), b(2, 2, 8, [l(5, 2, 3)])],
         'contents without a commit, a tail': one + [c(2, b'')],
+        'a release': one + [r(1, 3, 9)],
+        'releases by seats 1 and 4, of stamps 0 and the largest': two + [r(1, 1, 0), r(2, 4, 2 ** 32 - 1)],
+        'releases in falling order': two + [r(2, 3, 9), r(1, 3, 9)],
+        'a commit behind a release': one + [r(1, 3, 9), c(2, b'B'), b(2, 2, 8, [l(5, 2, 4)])],
+        'a copy of what stands before a release': one + [r(1, 3, 9), b(2, 2, 8, [l(6, 4, 1, (5, 1))]), r(2, 1, 0)],
+        'a release, contents without a commit': one + [r(1, 3, 9), c(2, b'')],
     }
     bad = {
         'no label': [bytes(512)] + one[1:],
@@ -120,14 +132,38 @@ def broken_rules(engine):
         'a block number past the end': one + [b(2, 2, 8, [l(6, 1, 60000)])],
         'kind 4': one + [layout.sealed([4, 1])],
         'kind 0 with a byte': one + [layout.sealed([0, 0, 0, 1])],
+        'a release of revision 0': one + [r(0, 3, 9)],
+        'a release of a revision that is not there': one + [r(2, 3, 9)],
+        'a release of revision 65,535': one + [r(65535, 3, 9)],
+        'a release of revision 257': one + [r(257, 3, 9)],
+        'a release before its revision': one + [r(2, 3, 9), c(2, b'B'), b(2, 2, 8, [l(5, 2, 4)])],
+        'a release behind the label': [one[0], r(1, 3, 9)],
+        'a release of revision 0 behind the label': [one[0], r(0, 3, 9)],
+        'a release before its commit': [one[0], r(1, 3, 9), c(1, b'A'), b(1, 2, 7, [l(5, 1, 2)])],
+        'a release for the label': [r(1, 3, 9)] + one,
+        'a revision released twice': one + [r(1, 3, 9), r(1, 3, 9)],
+        'a revision released twice, by another seat with another stamp': one + [r(1, 3, 9), r(1, 4, 8)],
+        'a revision released twice, with a commit between': one + [r(1, 3, 9), c(2, b'B'), b(2, 2, 8, [l(5, 2, 4)]), r(1, 3, 9)],
+        'a revision released twice, with another between': two + [r(1, 3, 9), r(2, 3, 9), r(1, 3, 9)],
+        'a release by seat 0': one + [r(1, 0, 9)],
+        'a release by seat 5': one + [r(1, 5, 9)],
+        'a release by seat 255': one + [r(1, 255, 9)],
+        'a release behind content': one + [c(2, b'B'), r(1, 3, 9)],
+        'a release between content and commit block': one + [c(2, b'B'), r(1, 3, 9), b(2, 2, 8, [l(5, 2, 3)])],
+        'a release between two contents': one + [c(2, b'1'), r(1, 3, 9), c(2, b'2'), b(2, 2, 8, [l(6, 1, 3), l(7, 1, 5)])],
+        'a release behind a zero block': one + [bytes(512), r(1, 3, 9)],
+        'a change that points to a release': one + [r(1, 3, 9), b(2, 2, 8, [l(5, 2, 3)])],
+        'a release that takes a revision': one + [r(1, 3, 9), c(3, b'B'), b(3, 2, 8, [l(5, 2, 4)])],
+        'the content of a tail that counts a release': one + [r(1, 3, 9), c(3, b'')],
     }
     for what, blocks in good.items():
         expect(what, refusal(engine, bytearray(b''.join(blocks) + bytes(512))), 0)
     for what, blocks in bad.items():
         expect(what, refusal(engine, bytearray(b''.join(blocks) + bytes(512))), 3)
     # bytes that are not named
-    store = b''.join(two) + bytes(512)
-    for number, named in ((0, {0, 1}), (1, {0, 2, 3, 4, 5} | set(range(16, 17))), (2, {0, 2, 3, 4, 5, 6} | set(range(8, 12)) | set(range(16, 24)))):
+    store = b''.join([*two, r(2, 3, 9)]) + bytes(512)
+    for number, named in ((0, {0, 1}), (1, {0, 2, 3, 4, 5} | set(range(16, 17))), (2, {0, 2, 3, 4, 5, 6} | set(range(8, 12)) | set(range(16, 24))),
+                          (5, {0, 4, 5, 6} | set(range(8, 12)))):
         for k in set(range(508)) - named:
             changed = bytearray(store)
             changed[number * 512 + k] = 1
@@ -142,12 +178,12 @@ def histories(engine, rng, count):
         m = history(rng, rng.choice([8, 32, 64, 65, 200]), rng.choice([20, 100, 200]))
         shuffled = lambda xs: rng.sample(xs, len(xs))
         for order in (None, shuffled):
-            store = bytearray(layout.store_bytes(m.blocks, m.history, order))
+            store = bytearray(layout.store_bytes(m.blocks, m.log, order))
             expect('a history', refusal(engine, store), 0)
             for revision in range(m.last() + 2):
                 for sheet in (*range(32), 32, 2 ** 32 - 1):
-                    expect(f'read {revision} {sheet}', engine.read(store, revision, sheet), m.call('read', 1, revision, sheet))
-                    expect(f'log {revision} {sheet}', engine.log(store, revision, sheet), m.call('log', 1, revision, sheet))
+                    for name in ('read', 'log', 'panel'):
+                        expect(f'{name} {revision} {sheet}', engine.call(name, store, None, revision, sheet), m.call(name, 1, revision, sheet))
 
 
 def main():

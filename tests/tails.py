@@ -1,13 +1,14 @@
 #!/usr/bin/env python3
-"""W5 of document 02 through the engine's C library: stores that end in a tail, and stores whose end is no tail. The calls that W6 cuts are among them.
+"""W5 of document 02 through the engine's C library: stores that end in a tail, and stores whose end is no tail. The calls that W6 cuts and those of W9 are among
+them.
 
 tails.py [SEED]
 
-Every store of 2 to 5 blocks out of seven: its number, and what clear leaves. Each rule of the tail broken alone, with the number that must come from every call.
-Tails of every size with every kind of block with a wrong check: every call but commit answers as on the bare store, which has zero blocks there, and leaves the
-tail; commit gives 14, whatever the working copy, and whatever n if it is cut; a clear that is cut leaves all but the n highest blocks of the tail; clear gives the
-bare store, and a commit then what it gives there. Stores whose last commit block was damaged,
-which read as a history that is one commit shorter and a tail. A store of 4,096 blocks and one of 2.
+Every store of 2 to 5 blocks out of eight: its number, and what clear leaves. Each rule of the tail broken alone, with the number that must come from every call.
+Tails of every size with every kind of block with a wrong check: every call but commit and release answers as on the bare store, which has zero blocks there, and
+leaves the tail; commit gives 14, whatever the working copy, and whatever n if it is cut, and so does release, whatever it is given; a clear that is cut leaves all
+but the n highest blocks of the tail; clear gives the bare store, and a commit or a release then what it gives there. Stores whose last commit block or release
+block was damaged, which read as a history that is one commit or one release shorter and a tail. A store of 4,096 blocks and one of 2.
 """
 import itertools, pathlib, random, re, sys
 
@@ -20,14 +21,16 @@ from stores import expect
 
 BLANK = bytes(512)
 WRONG = layout.label()[:-1] + b'\xff'
-content, commit_block, line = layout.content, layout.commit_block, layout.line
+content, commit_block, line, release_block = layout.content, layout.commit_block, layout.line, layout.release_block
+RELEASES = [(3, 4, 9), (1, 4, 9), (2, 4, 9), (0, 4, 9), (4, 4, 9), (3, 0, 9), (2, 5, 9)]  # of those of `desk`, 3 is none yet
 
 
 def desk():
-    """A model with three revisions and a working copy of seat 2 that a commit takes, with a modified, an added, a deleted and a copied entry; it needs 3 blocks."""
+    """A model with three revisions, of which 1 and 2 are released, and a working copy of seat 2 that a commit takes, with a modified, an added, a deleted and a
+    copied entry; it needs 3 blocks."""
     model = sheets.Machine(4096)
-    for c in [('add', 1, 4, b'A'), ('add', 1, 5, b''), ('add', 1, 6, b'C'), ('commit', 1, 7, ALL), ('edit', 1, 5, b'B'), ('commit', 1, 8, ALL), ('delete', 1, 6),
-              ('commit', 1, 9, ALL), ('update', 2, ALL, 3), ('edit', 2, 5, b'D'), ('add', 2, 8, b'E'), ('copy', 2, 4, 7), ('delete', 2, 4)]:
+    for c in [('add', 1, 4, b'A'), ('add', 1, 5, b''), ('add', 1, 6, b'C'), ('commit', 1, 7, ALL), ('edit', 1, 5, b'B'), ('commit', 1, 8, ALL), ('release', 1, 2, 3, 9),
+              ('delete', 1, 6), ('commit', 1, 9, ALL), ('release', 1, 1, 3, 9), ('update', 2, ALL, 3), ('edit', 2, 5, b'D'), ('add', 2, 8, b'E'), ('copy', 2, 4, 7), ('delete', 2, 4)]:
         assert model.call(*c)[0] != 'no'
     return model, layout.copy_bytes(2, model.seats[2])
 
@@ -40,12 +43,13 @@ def expect_bytes(what, got, wanted):
 # ---- short stores
 
 def every_short_store(engine):
-    """Stores as words: a zero block, the label, a wrong check, a content of revision 1 and of 2, commit 1, which adds block 1, and commit 2, a delete."""
+    """Stores as words: a zero block, the label, a wrong check, a content of revision 1 and of 2, commit 1, which adds block 1, commit 2, a delete, and a release of
+    revision 1."""
     blocks = {'0': BLANK, 'L': layout.label(), 'w': WRONG, 'a': content(1, b'A'), 'b': content(2, b'B'),
-              'A': commit_block(1, 2, 7, [line(5, 1, 1)]), 'B': commit_block(2, 2, 8, [line(5, 3, 0)])}
+              'A': commit_block(1, 2, 7, [line(5, 1, 1)]), 'B': commit_block(2, 2, 8, [line(5, 3, 0)]), 'R': release_block(1, 3, 9)}
     bytes_of = lambda word: b''.join(blocks[x] for x in word)
     for word in map(''.join, itertools.chain.from_iterable(itertools.product(blocks, repeat=n) for n in (2, 3, 4, 5))):
-        whole = re.fullmatch('(?:(L)a*|(LaA)b*|(LaAB))w?0*', word)
+        whole = re.fullmatch('(?:(L)a*|(LaAR?)b*|(LaARB|LaABR?))w?0*', word)
         wrong = 'w' in word.rstrip('0')[:-1] or word[0] == 'w'
         if wrong or not whole:
             unchanged(engine, f'{word}: clear', 'clear', (), bytes_of(word), b'', 2 if wrong else 3)
@@ -53,15 +57,17 @@ def every_short_store(engine):
             bare = whole[whole.lastindex]
             clears(engine, word, bytes_of(word), bytes_of(bare.ljust(len(word), '0')))
             expect(f'{word}: revisions', [engine.log(bytes_of(word), r, 5)[0] for r in (1, 2)], ['log' if commit in bare else 'no' for commit in 'AB'])
+            if 'A' in bare:
+                expect(f'{word}: a panel', engine.panel(bytes_of(word), 1, 5), ('bytes', b'A', 1) if 'R' in bare else ('no', 8))
 
 
 # ---- stores whose end is no tail
 
 def broken_rules(engine):
     model, copy = desk()
-    history = layout.used_blocks(layout.store_bytes(16, model.history))
+    history = layout.used_blocks(layout.store_bytes(16, model.log))
     next_one = len(model.history) + 1
-    more = content(next_one, b'A')
+    more, release = content(next_one, b'A'), release_block(3, 4, 9)
     label, damaged = history[0], history[0][:100] + b'\1' + history[0][101:]
     shaped = lambda *head: layout.sealed(bytes(head))
     bad = {
@@ -70,7 +76,10 @@ def broken_rules(engine):
             'content, wrong, wrong': [*history, more, WRONG, WRONG], 'wrong, zero block, wrong': [*history, WRONG, BLANK, WRONG],
             'wrong, commit': [*history, WRONG, commit_block(next_one, 2, 7, [line(5, 3, 0)])], 'wrong before the last commit': [*history[:-1], WRONG, history[-1]],
             'a damaged content block before a tail': [label, history[1][:20] + b'\1' + history[1][21:], *history[2:], more],
-            'a damaged commit block before a tail': [*history[:-1], history[-1][:20] + b'\1' + history[-1][21:], more],
+            'a damaged release block before a tail': [*history[:-1], history[-1][:20] + b'\1' + history[-1][21:], more],
+            'a damaged commit block before a tail': [*history[:-2], history[-2][:20] + b'\1' + history[-2][21:], history[-1], more],
+            'wrong, release': [*history, WRONG, release], 'content, wrong, release': [*history, more, WRONG, release],
+            'a damaged release block before a commit': [*history[:-3], history[-3][:6] + b'\1' + history[-3][7:], *history[-2:]],
             'a damaged label': [damaged], 'a damaged label, content': [damaged, content(1, b'')], 'a damaged label, wrong': [damaged, WRONG],
             'a damaged label, zero block, wrong': [damaged, BLANK, WRONG], 'a damaged label, history': [damaged, *history[1:]], 'any block alone': [WRONG],
         },
@@ -86,6 +95,11 @@ def broken_rules(engine):
             'content, a commit of another': [*history, more, commit_block(next_one, 2, 7, [line(5, 3, 0)])],
             'content, a commit of the last revision': [*history, more, commit_block(next_one - 1, 2, 7, [line(5, 2, len(history))])],
             'a commit of no change': [*history, commit_block(next_one, 2, 7, [])],
+            'content, release': [*history, more, release], 'content, release, wrong': [*history, more, release, WRONG],
+            'content, release, content': [*history, more, release, more], '32 contents, release': [*history, *[more] * 32, release],
+            'zero block, release': [*history, BLANK, release], 'a release twice, wrong': [*history, release, release, WRONG],
+            'a release of revision 1 again': [*history, release_block(1, 4, 9)], 'a release of the next revision': [*history, release_block(next_one, 4, 9)],
+            'content, a release of its revision': [*history, more, release_block(next_one, 4, 9)], 'label, release, wrong': [label, release_block(1, 4, 9), WRONG],
             **{f'kind {kind}': [*history, more, shaped(kind, 1)] for kind in (0, 4, 5, 6, 7, 9, 255)},
         },
     }
@@ -106,8 +120,9 @@ def broken_rules(engine):
 
 
 def refused(engine, what, store, copy, number):
-    """Every call gives the number, clear and commit too, cut or not, and changes nothing."""
-    for name, *args in CALLS + [('clear',), ('clear_cut', 0), ('clear_cut', 1), ('commit', 9, ALL), ('commit_cut', 9, ALL, 0), ('commit_cut', 9, ALL, 33)]:
+    """Every call gives the number, clear, commit, cut or not, and release too, and changes nothing."""
+    for name, *args in CALLS + [('clear',), ('clear_cut', 0), ('clear_cut', 1), ('commit', 9, ALL), ('commit_cut', 9, ALL, 0), ('commit_cut', 9, ALL, 33),
+                                *(('release', *given) for given in RELEASES)]:
         unchanged(engine, f'{what}: {name}', name, args, store, copy, number)
 
 
@@ -130,7 +145,7 @@ def clears(engine, what, store, bare):
 
 # ---- tails
 
-CALLS = [(name, revision, sheet) for name in ('read', 'log') for revision in (0, 1, 2, 3, 4) for sheet in (4, 5, 6, 32)] + [
+CALLS = [(name, revision, sheet) for name in ('read', 'log', 'panel') for revision in (0, 1, 2, 3, 4) for sheet in (4, 5, 6, 32)] + [
     (name, sheet) for name in ('show', 'status', 'delete') for sheet in (4, 5, 6, 7, 8, 9, 32)] + [
     ('add', 9, b'X'), ('add', 5, b'X'), ('add', 9, b'X' * 481), ('edit', 5, b'X'), ('edit', 8, b''), ('edit', 9, b''), ('copy', 5, 9), ('copy', 7, 8), ('copy', 9, 10),
     ('move', 5, 9), ('move', 4, 9), ('move', 8, 6), ('update', ALL, 3), ('update', ALL, 2), ('update', 1 << 6, 1), ('update', ALL, 4), ('update', 0, 3),
@@ -146,7 +161,7 @@ def beside(engine, what, bare, tail, copy, all_calls=True):
         expect(said, calls.on_buffers(engine, said, name, args, *on_tail), engine.call(name, *on_bare, *args))
         expect_bytes(f'{said}, the store', on_tail[0], store)
         expect_bytes(f'{said}, the copy', on_tail[1], on_bare[1])
-        if name in ('read', 'show'):
+        if name in ('read', 'show', 'panel'):
             expect(f'{said}, the part', engine.part(name, store, copy, *args), engine.part(name, bare, copy, *args))
     for why, other in (('', copy), (' of no length', b''), (' too short', copy[:-512]), (' too long', copy + BLANK), (' with a wrong check', copy[:-1] + b'\1'),
                        (' that does not fit', layout.copy_bytes(2, [('normal', 60000, b'')] * 32))):
@@ -154,10 +169,16 @@ def beside(engine, what, bare, tail, copy, all_calls=True):
             unchanged(engine, f'{what}: commit with a copy{why}', 'commit', (9, mask), store, other, 14)
             for n in (0, 33):
                 unchanged(engine, f'{what}: commit cut at {n} with a copy{why}', 'commit_cut', (9, mask, n), store, other, 14)
+    for given in RELEASES:
+        unchanged(engine, f'{what}: release {given}', 'release', given, store, copy, 14)
     for n in {0, 1, len(tail) - 1, len(tail), len(tail) + 1, 2 ** 32 - 1}:
         cleared = bytearray(store)
         expect(f'{what}: clear cut at {n}', engine.clear_cut(cleared, n), ('stopped',) if n < len(tail) else ('done',))
         expect_bytes(f'{what}: clear cut at {n}, the store', cleared, layout.tailed(bare, tail[:max(0, len(tail) - n)]))
+    for given in RELEASES:
+        after, wanted, said = clears(engine, what, store, bare), bytearray(bare), f'{what}: release {given} after clear'
+        expect(said, engine.release(after, *given), engine.release(wanted, *given))
+        expect_bytes(f'{said}, the store', after, wanted)
     after, wanted = (clears(engine, what, store, bare), bytearray(copy)), (bytearray(bare), bytearray(copy))
     expect(f'{what}: commit after clear', engine.call('commit', *after, 9, ALL), engine.call('commit', *wanted, 9, ALL))
     expect_bytes(f'{what}: commit after clear, the store', after[0], wanted[0])
@@ -176,7 +197,7 @@ def sizes(engine, rng):
             tail = [content(next_one, rng.choice([b'', b'A', rng.randbytes(480)])) for _ in range(count)] + ([last] if last else [])
             for zeros in (0, 5):
                 order = rng.choice([None, shuffled])
-                bare = layout.store_bytes(model.used + len(tail) + zeros, model.history, order, order)
+                bare = layout.store_bytes(model.used + len(tail) + zeros, model.log, order, order)
                 if tail:
                     beside(engine, f'{count} contents, junk: {what}', bare, tail, copy, count < 3)
                 else:
@@ -195,23 +216,43 @@ def smallest_and_largest(engine, rng):
 
 
 def last_block_damaged(engine, rng):
-    """A commit block that was damaged later, in each of its bytes: its content is a tail with it, and the history one commit shorter."""
+    """A commit block that was damaged later, in each of its bytes: its content is a tail with it, and the history one commit shorter. Releases stay."""
     model, copy = desk()
     most = (4, 10, {i: (sheets.ADD, b'%d' % i, None) for i in range(9, 32)} | {i: (sheets.CHANGE, b'%d' % i, None) for i in (4, 5)})
-    for history in (model.history[:1], model.history[:2], model.history, [*model.history, most], [(1, 7, {i: (sheets.ADD, b'', None) for i in range(32)})]):
-        commits, *blocks = len(history), *layout.used_blocks(layout.store_bytes(64, history))
+    for log in (model.history[:1], model.history[:2], model.history, model.log[:4], [*model.log, most], [(1, 7, {i: (sheets.ADD, b'', None) for i in range(32)})]):
+        commits, *blocks = len(sheets.commits_of(log)), *layout.used_blocks(layout.store_bytes(64, log))
         zeros = rng.choice([0, 2])
-        bare = layout.store_bytes(len(blocks) + zeros, history[:-1])
+        bare = layout.store_bytes(len(blocks) + zeros, log[:-1])
         for at in range(512):
             last = bytearray(blocks[-1])
             last[at] ^= rng.randint(1, 255)
             damaged = b''.join(blocks[:-1]) + bytes(last) + BLANK * zeros
             what = f'byte {at} of commit {commits}'
-            for c in [('read', commits - 1, 5), ('read', commits, 5), ('log', commits - 1, 4), ('log', commits, 4)]:
+            for c in [('read', commits - 1, 5), ('read', commits, 5), ('log', commits - 1, 4), ('log', commits, 4), ('panel', commits - 1, 5), ('panel', commits, 5)]:
                 expect(f'{what}: {c}', engine.call(c[0], damaged, None, *c[1:]), engine.call(c[0], bare, None, *c[1:]))
             calls.on_buffers(engine, what, 'add', (9, b'X'), bytearray(damaged), bytearray(copy))  # the copy has base 3
             unchanged(engine, f'{what}: commit', 'commit', (9, ALL), damaged, copy, 14)
             clears(engine, what, damaged, bare)
+
+
+def last_release_damaged(engine, rng):
+    """A release block that was damaged later, in each of its bytes, behind a commit or a release: it is a tail, the history stays and the release is gone."""
+    model, copy = desk()
+    for log in (model.log[:3], model.log, [*model.log, sheets.Release(3, 1, 2 ** 32 - 1)]):
+        blocks, last, revision = layout.used_blocks(layout.store_bytes(64, log)), log[-1], len(sheets.commits_of(log))
+        zeros = rng.choice([1, 2])
+        bare = layout.store_bytes(len(blocks) + zeros, log[:-1])
+        for at in range(512):
+            block = bytearray(blocks[-1])
+            block[at] ^= rng.randint(1, 255)
+            damaged, what = b''.join(blocks[:-1]) + bytes(block) + BLANK * zeros, f'byte {at} of the release of {last.revision}'
+            for c in [(name, r, i) for name in ('read', 'panel') for r in range(revision + 2) for i in (5, 6)] + [('log', revision, 5), ('log', revision + 1, 5)]:
+                expect(f'{what}: {c}', engine.call(c[0], damaged, None, *c[1:]), engine.call(c[0], bare, None, *c[1:]))
+            unchanged(engine, f'{what}: release', 'release', last, damaged, copy, 14)
+            unchanged(engine, f'{what}: commit', 'commit', (9, ALL), damaged, copy, 14)
+            again = clears(engine, what, damaged, bare)
+            expect(f'{what}: release after clear', engine.release(again, *last), ('done',))
+            expect_bytes(f'{what}: release after clear, the store', again, b''.join(blocks) + BLANK * zeros)
 
 
 def main():
@@ -225,6 +266,7 @@ def main():
     sizes(engine, rng)
     smallest_and_largest(engine, rng)
     last_block_damaged(engine, rng)
+    last_release_damaged(engine, rng)
     wrong = stores.failed + calls.failed
     print(f'{stores.passed + stores.failed} answers, {wrong} wrong' + (f': tests/tails.py {seed}' if wrong else ''))
     sys.exit(wrong != 0)

@@ -68,7 +68,7 @@ def benches():
     edits = [('edit', k, 5, b'B') for k in SEATS]
     other = [('edit', 1, 5, b'C'), ('commit', 1, STAMP, ALL), ('update', 1, ALL, 1), ('edit', 1, 5, b'B')]
     ready = worked(6, *edits)
-    whole = lambda model: (layout.store_bytes(model.blocks, model.history), {k: layout.copy_bytes(k, model.seats[k]) for k in SEATS})
+    whole = lambda model: (layout.store_bytes(model.blocks, model.log), {k: layout.copy_bytes(k, model.seats[k]) for k in SEATS})
     for model in (worked(6), ready, worked(6, *other, *edits[1:]), worked(3, *edits)):
         yield model, *whole(model)
     store, copies = whole(ready)
@@ -92,7 +92,7 @@ def every_commit(engine):
         for seat, mask in itertools.product(SEATS, (ALL, 0)):
             numbers, usual = of_buffers(store, copies[seat]), lists.twin(model)
             bare = usual.call('commit', seat, STAMP, mask)
-            done = bare, (layout.store_bytes(model.blocks, usual.history), layout.copy_bytes(seat, usual.seats[seat]))
+            done = bare, (layout.store_bytes(model.blocks, usual.log), layout.copy_bytes(seat, usual.seats[seat]))
             for record in (RECORDS if seat < 3 else ()) if numbers else RECORDS + WITH_LARGE:
                 model.turn = record
                 first = numbers[0] if numbers else model.asked(seat, STAMP, mask, True)[0]

@@ -1,5 +1,5 @@
 /* Two seats at one store: add, commit, update, read back with the revision beside each sheet, two refusals, and the same edit twice; then two calls as one script,
- * a commit that is cut, and commits in turn.
+ * a commit that is cut, commits in turn, and what a panel shows.
  * Exits 1 at the first answer that is not as expected.
  *
  *     rt staticlib sheetstore
@@ -145,6 +145,29 @@ static void take_turns(void) {
     expect("the planner takes the turn back, nobody waits", sheets_turn_take(&turn), 0, 0);
 }
 
+/* A panel's reading of a sheet, up to a revision. */
+static sheets_place panel(uint32_t revision, uint32_t sheet) {
+    return sheets_panel_read(store, sizeof store, revision, sheet);
+}
+
+/* Ends the program unless a panel has nothing to show of a sheet. */
+static void expect_none(const char *what, sheets_place got) {
+    expect(what, (sheets_answer){got.refusal, 0}, SHEETS_REFUSED_MISSING, 0);
+}
+
+/* The panel at the pool shows what was released, the engineers see all. */
+static void release(void) {
+    expect_none("the panel's sheet 5, nothing is released", panel(5, 5));
+    expect("seat 2 releases revision 3", sheets_release(store, sizeof store, 3, 2, 700), 0, 0);
+    expect_text("the panel's sheet 5", store, panel(5, 5), "stop after 20 s", 2);
+    expect_none("the panel's sheet 8, which is not released", panel(5, 8));
+    expect_text("sheet 8 at revision 5", store, sheets_read(store, sizeof store, 5, 8), "chlorine 0.6 mg/l", 5);
+    expect("seat 1 releases revision 3 too", sheets_release(store, sizeof store, 3, 1, 701), SHEETS_REFUSED_RELEASED, 0);
+    expect("seat 1 releases revision 1", sheets_release(store, sizeof store, 1, 1, 701), 0, 0);
+    expect_text("the panel's sheet 5 up to revision 2", store, panel(2, 5), "stop after 30 s", 1);
+    expect_text("the panel's sheet 5, still", store, panel(5, 5), "stop after 20 s", 2);
+}
+
 int main(void) {
     expect("create the store", sheets_create_store(store, sizeof store), 0, 0);
     expect("create seat 1's copy", sheets_create_copy(pump_room, sizeof pump_room, 1), 0, 0);
@@ -179,5 +202,6 @@ int main(void) {
     replay();
     cut();
     take_turns();
+    release();
     return 0;
 }

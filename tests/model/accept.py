@@ -1,6 +1,6 @@
-"""Acceptance in plain Python, made apart from the engine: which of refusals 1 to 6, and 14 for a commit, comes first for two buffers, or 0; and which of 1 to 7
-for a replay."""
-from layout import BLOCK, COPY_LEN, commit_block, content, entry_block, entry_of, filled_blocks, held, label, sealed, two_at
+"""Acceptance in plain Python, made apart from the engine: which of refusals 1 to 6, and 14 for a commit or a release, comes first for two buffers, or 0; and which
+of 1 to 7 for a replay."""
+from layout import BLOCK, COPY_LEN, commit_block, content, entry_block, entry_of, filled_blocks, held, label, release_block, sealed, two_at
 from script import records_ok
 from sheets import ADD, CHANGE, COPY, DELETE
 
@@ -52,11 +52,19 @@ def next_tree(blocks, block, trees, contents):
     return after if sorted(own) == contents else None
 
 
+def stands(block, last, released):
+    """W9: whether the release block "names a revision from 1 to the last before it, none twice", by a seat, and is in form."""
+    revision, seat = two_at(block, 4), block[6]
+    if not 1 <= revision <= last or revision in released or not 1 <= seat <= 4:
+        return False
+    return block == release_block(revision, seat, int.from_bytes(block[8:12], 'little'))
+
+
 def trees_of(blocks):
     """The tree of every revision, and the number of blocks in the tail; None if the blocks aren't the layout of a history and, maybe, a tail."""
     if blocks[0] != label():
         return None
-    trees, contents, number = [{}], [], 1
+    trees, contents, released, number = [{}], [], set(), 1
     while number < len(blocks) and blocks[number] != BLANK and checked([blocks[number]]):
         b = blocks[number]
         if b[0] == 2:
@@ -69,6 +77,10 @@ def trees_of(blocks):
                 return None
             trees.append(tree)
             contents = []
+        elif b[0] == 6:  # it "may follow any commit or release": not a content block, nor the label, since it names a revision before it
+            if contents or not stands(b, len(trees) - 1, released):
+                return None
+            released.add(two_at(b, 4))
         else:
             return None
         number += 1
@@ -118,11 +130,11 @@ def copy_refusal(copy, trees):
     return 0 if all(fits(i, entry_of(b), trees) for i, b in enumerate(blocks[1:])) else 6
 
 
-def refusal(store, copy=None, commits=False):
-    """The first of 1 to 6 that holds for a call that takes the store, or the store and the copy, and for a commit, cut or not, through the turn record or not, 14,
-    "checked right after 3"; 0 for none."""
+def refusal(store, copy=None, adds=False):
+    """The first of 1 to 6 that holds for a call that takes the store, or the store and the copy, and for one that adds to the log, a commit, cut or not, through the
+    turn record or not, or a release, 14, "checked right after 3"; 0 for none."""
     number, trees, tail = store_refusal(store)
-    if not number and commits and tail:
+    if not number and adds and tail:
         return 14
     return number if number or copy is None else copy_refusal(copy, trees)
 

@@ -1,13 +1,14 @@
-"""The blocks of document 01 in plain Python, made apart from the engine: bytes of a history and of a working copy, and back.
+"""The blocks of document 01 in plain Python, made apart from the engine: bytes of a history and of a working copy, and back. "For layout and W1 a history includes
+its releases and their places" (W9): the log of sheets.py.
 
-`store_bytes` lays a history out, in the order of W1 (document 02) or in orders of the caller's; `appended` lays one more commit out behind the blocks of a
-store in any order, or its first blocks, as W6 cuts it; `tailed` puts the tail of W5 behind them, `cleared` takes it away, or a part of it; `history_of` and
+`store_bytes` lays a log out, in the order of W1 (document 02) or in orders of the caller's; `appended` lays one more commit or release out behind the blocks of a
+store in any order, or its first blocks, as W6 cuts it; `tailed` puts the tail of W5 behind them, `cleared` takes it away, or a part of it; `log_of` and
 `entries_of` read buffers that are known to be layouts.
 Nothing here checks a layout: accept.py does.
 """
 import functools
 
-from sheets import COPY, DELETE
+from sheets import COPY, DELETE, Release
 
 BLOCK = 512
 COPY_LEN = 33 * BLOCK
@@ -63,6 +64,11 @@ def commit_block(revision, seat, stamp, lines):
     return sealed(bytes([3, 0]) + two(len(lines)) + two(revision) + bytes([seat, 0]) + stamp.to_bytes(4, 'little') + bytes(4) + b''.join(lines))
 
 
+def release_block(revision, seat, stamp):
+    """W9: "A release block (byte 0 = 6, 4–5 revision, 6 seat, 8–11 stamp)"."""
+    return sealed(bytes([6, 0, 0, 0]) + two(revision) + bytes([seat, 0]) + stamp.to_bytes(4, 'little'))
+
+
 def commit_blocks(first, commit, trees, order=None, contents=None):
     """The blocks of the commit that comes after these trees, the first of them with this number, and the tree after it.
 
@@ -96,11 +102,14 @@ def filled(blocks, used):
     return b''.join(used) + bytes((blocks - len(used)) * BLOCK)
 
 
-def store_bytes(blocks, history, order=None, contents=None):
-    """A store of so many blocks with this history, in the order of W1 or in others: see `commit_blocks`."""
+def store_bytes(blocks, log, order=None, contents=None):
+    """A store of so many blocks with this log, in the order of W1 or in others: see `commit_blocks`."""
     used, trees = [label()], [{}]
-    for commit in history:
-        more, tree = commit_blocks(len(used), commit, trees, order, contents)
+    for item in log:
+        if isinstance(item, Release):
+            used.append(release_block(*item))
+            continue
+        more, tree = commit_blocks(len(used), item, trees, order, contents)
         used += more
         trees.append(tree)
     return filled(blocks, used)
@@ -113,10 +122,10 @@ def filled_blocks(store):
 
 
 def used_blocks(store):
-    """The blocks in use of a store that is known to be a layout: up to the last commit block, or the label. A tail stands behind them. It has content blocks,
-    and a block with a wrong check."""
+    """The blocks in use of a store that is known to be a layout: up to the last commit or release block, or the label. A tail stands behind them. It has content
+    blocks, and a block with a wrong check."""
     blocks = filled_blocks(store)
-    while blocks[-1][0] not in (1, 3) or blocks[-1] != sealed(blocks[-1][:508]):
+    while blocks[-1][0] not in (1, 3, 6) or blocks[-1] != sealed(blocks[-1][:508]):
         blocks.pop()
     return blocks
 
@@ -144,19 +153,24 @@ def lines_of(block):
         yield l[0], l[1], two_at(l, 2), (l[4], two_at(l, 6)) if l[1] == COPY else None
 
 
-def history_of(store):
-    """The history that a store is known to lay out, its used blocks, and those of its tail."""
-    blocks, history = used_blocks(store), []
+def log_of(store):
+    """The log that a store is known to lay out, its used blocks, and those of its tail."""
+    blocks, log = used_blocks(store), []
     for b in blocks:
+        stamp = int.from_bytes(b[8:12], 'little')
         if b[0] == 3:
             changes = {sheet: (action, None if action == DELETE else held(blocks[point]), source) for sheet, action, point, source in lines_of(b)}
-            history.append((b[6], int.from_bytes(b[8:12], 'little'), changes))
-    return history, len(blocks), len(filled_blocks(store)) - len(blocks)
+            log.append((b[6], stamp, changes))
+        elif b[0] == 6:
+            log.append(Release(two_at(b, 4), b[6], stamp))
+    return log, len(blocks), len(filled_blocks(store)) - len(blocks)
 
 
-def writes(store, commit):
-    """What one more commit writes behind the used blocks of a store that is known to be a layout, in the order of W1, which is that of its writes: "Commit writes its
-    content blocks in rising order, then its commit block"."""
+def writes(store, item):
+    """What one more commit or release writes behind the used blocks of a store that is known to be a layout, in the order of W1, which is that of its writes: "Commit
+    writes its content blocks in rising order, then its commit block"; a release has one block."""
+    if isinstance(item, Release):
+        return [release_block(*item)]
     used, trees = used_blocks(store), [{}]
     for b in used:
         if b[0] == 3:
@@ -167,13 +181,13 @@ def writes(store, commit):
                 else:
                     tree[sheet] = (point, held(used[point]))
             trees.append(tree)
-    return commit_blocks(len(used), commit, trees)[0]
+    return commit_blocks(len(used), item, trees)[0]
 
 
-def appended(store, commit, n=33):
-    """A store that is known to be a layout without a tail, with one more commit, or the first n blocks of it, behind its used blocks. What stands there already
-    stays, whatever its order."""
-    return filled(len(store) // BLOCK, used_blocks(store) + writes(store, commit)[:n])
+def appended(store, item, n=33):
+    """A store that is known to be a layout without a tail, with one more commit or release, or the first n blocks of it, behind its used blocks. What stands there
+    already stays, whatever its order."""
+    return filled(len(store) // BLOCK, used_blocks(store) + writes(store, item)[:n])
 
 
 def entry_block(entry):

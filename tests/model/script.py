@@ -1,8 +1,8 @@
 """Scripts and answers in bytes, in plain Python, made apart from the engine: the records of docs/LAYOUT.md."""
 RECORD = 512
 MOST = 496  # bytes that a call of a script can take
-KINDS = ('add', 'edit', 'delete', 'copy', 'move', 'commit', 'update', 'revert', 'read', 'show', 'status', 'log', 'clear', 'commit_cut',
-         'clear_cut')
+NAMES = ('add', 'edit', 'delete', 'copy', 'move', 'commit', 'update', 'revert', 'read', 'show', 'status', 'log', 'clear', 'commit_cut', 'clear_cut')
+KINDS = {name: kind for kind, name in enumerate(NAMES, 1)} | dict(release=20, panel=21)  # 16 to 19, the turn record's, are in no script
 
 
 def four(*numbers):
@@ -13,8 +13,11 @@ def call_record(name, seat, *args, unused=bytes(RECORD)):
     """The record of a call. What it has no use for comes from `unused`."""
     data = args[-1] if name in ('add', 'edit') else None
     numbers = args if data is None else args[:-1]
+    if name == 'release':  # the third number is the seat
+        revision, by, stamp = args
+        numbers = revision, stamp, by
     out = bytearray(unused)
-    out[0:2] = KINDS.index(name) + 1, seat
+    out[0:2] = KINDS[name], seat
     out[4:4 + 4 * len(numbers)] = four(*numbers)
     if data is not None:
         out[16:16 + len(data)] = data
@@ -44,4 +47,4 @@ def answer_record(answer):
 
 def records_ok(script):
     records = [script[k:k + RECORD] for k in range(0, len(script), RECORD)]
-    return all(len(r) == RECORD and 1 <= r[0] <= len(KINDS) and 1 <= r[1] <= 4 and int.from_bytes(r[2:4], 'little') <= MOST for r in records)
+    return all(len(r) == RECORD and r[0] in KINDS.values() and 1 <= r[1] <= 4 and int.from_bytes(r[2:4], 'little') <= MOST for r in records)

@@ -1,17 +1,32 @@
-"""A model of document 01, with the requests of document 02 up to W7, in plain data, made apart from the engine: no buffers, no blocks, nothing shared with the
+"""A model of document 01, with the requests of document 02 up to W9, in plain data, made apart from the engine: no buffers, no blocks, nothing shared with the
 crates. W1 moves nothing here: it is the order of the blocks, in layout.py. W2 moves update. W3 moves what read, show and status answer. W4 moves no answer. W5
 adds the number of the tail's blocks, which commit minds and clear makes 0. W6 adds the cut calls, which make a tail and leave one, and what a power cut leaves,
-which is no call. W7 adds the commit through the turn record; the record and its own calls are in turns.py, and stand beside the rest here.
+which is no call. W7 adds the commit through the turn record; the record and its own calls are in turns.py, and stand beside the rest here. W8 moves nothing here.
+W9 adds the releases, which stand in the log among the commits, and the panel's reading.
 
-A tree is a dict from sheet to bytes. A change is (action, bytes, source); a commit is (seat, stamp, {sheet: change}).
+A tree is a dict from sheet to bytes. A change is (action, bytes, source); a commit is (seat, stamp, {sheet: change}). The log has the commits and the releases in
+their common order, the history is its commits.
 An entry is ('empty',), ('normal', base, bytes), ('added', bytes), ('deleted', base) or ('copied', (sheet, revision), bytes).
 An answer is ('no', number), ('done',), ('revision', R), ('stopped',), ('bytes', bytes, W3's number or None for a seat's own bytes),
 ('status', 0 to 8, W3's number), ('log', seat, stamp, m, change or None), where the change is (action, source or None), or ('holder', seat or 0).
 """
+import collections
+
 import turns
 
 ADD, CHANGE, DELETE, COPY = 1, 2, 3, 4
 EMPTY = ('empty',)
+Release = collections.namedtuple('Release', 'revision seat stamp')
+
+
+def commits_of(log):
+    """W9: a release "isn't a revision itself"."""
+    return [item for item in log if not isinstance(item, Release)]
+
+
+def released(log):
+    """The released revisions, in the order of their releases."""
+    return [item.revision for item in log if isinstance(item, Release)]
 
 
 class Machine:
@@ -19,11 +34,15 @@ class Machine:
         self.blocks = blocks
         self.used = 1
         self.tail = 0
-        self.history = []
+        self.log = []
         self.seats = {seat: [EMPTY] * 32 for seat in (1, 2, 3, 4)}
         self.turn = turns.FREE
 
     # ---- trees
+
+    @property
+    def history(self):
+        return commits_of(self.log)
 
     def last(self):
         return len(self.history)
@@ -40,8 +59,9 @@ class Machine:
 
     def namer(self, revision, sheet):
         """The last commit up to the revision that names the sheet, or 0."""
-        for number in range(min(revision, self.last()), 0, -1):
-            if sheet in self.history[number - 1][2]:
+        history = self.history
+        for number in range(min(revision, len(history)), 0, -1):
+            if sheet in history[number - 1][2]:
                 return number
         return 0
 
@@ -171,12 +191,33 @@ class Machine:
             return 13, None, 0
         return 0, (seat, stamp, changes), blocks
 
+    def asked_release(self, revision, seat, stamp):
+        """What a release is to write, likewise: "Refusal 13 covers its one block, by which U grows, 14 a store with a tail"."""
+        if self.tail:
+            return 14, None, 0
+        if not 1 <= revision <= self.last() or not 1 <= seat <= 4:  # "7 covers 0 and a seat outside 1 to 4", and as everywhere a revision that exceeds the last
+            return 7, None, 0
+        if revision in released(self.log):  # "16, a release of a revision already released, checked after 7"
+            return 16, None, 0
+        if self.used + 1 > self.blocks:
+            return 13, None, 0
+        return 0, Release(revision, seat, stamp), 1
+
+    def adds(self, call):
+        """What a commit of any kind, or a release, is to write, likewise. Any other call adds nothing to the log."""
+        name, seat, *args = call
+        if name == 'release':
+            return self.asked_release(*args)
+        if name in ('commit', 'commit_cut', 'turn_commit'):
+            return self.asked(seat, *args[:2], name == 'turn_commit')
+        return 0, None, 0
+
     def do_commit(self, entries, seat, stamp, mask, in_turn=False):
         number, commit, blocks = self.asked(seat, stamp, mask, in_turn)
         if number:
             return ('no', number)
         self.used += blocks
-        self.history.append(commit)
+        self.log.append(commit)
         for i, (action, data, _) in commit[2].items():
             entries[i] = EMPTY if action == DELETE else ('normal', self.last(), data)
         return ('revision', self.last())
@@ -237,6 +278,22 @@ class Machine:
         answer, self.turn = turns.called(self.turn, 'take')
         return answer
 
+    def do_release(self, entries, seat, revision, by, stamp):
+        """W9: a call on the store alone; `by` is its seat. Whose working copy it is doesn't matter."""
+        number, release, blocks = self.asked_release(revision, by, stamp)
+        if number:
+            return ('no', number)
+        self.used += blocks
+        self.log.append(release)
+        return ('done',)
+
+    def do_panel(self, entries, seat, revision, sheet):
+        """W9: "A panel reading R gets what read, or its companion, gives at the greatest released revision up to R, and refusal 8 if there is none." """
+        if sheet > 31 or revision > self.last():
+            return ('no', 7)
+        shown = [r for r in released(self.log) if r <= revision]
+        return self.do_read(entries, seat, max(shown), sheet) if shown else ('no', 8)
+
     def do_read(self, entries, seat, revision, sheet):
         if sheet > 31 or revision > self.last():
             return ('no', 7)
@@ -272,20 +329,19 @@ class Machine:
     # ---- the power
 
     def writes(self, call):
-        """How many blocks a commit or a clearing writes; 0 for one that is refused or has nothing to write."""
-        name, seat, *args = call
-        return self.tail if name == 'clear' else self.asked(seat, *args)[2]
+        """How many blocks a commit, a release or a clearing writes; 0 for one that is refused or has nothing to write."""
+        return self.tail if call[0] == 'clear' else self.adds(call)[2]
 
     def power(self, call, n, how):
         """W6: the power fails while a commit or a clearing that would be done writes its block number n, counted from 0. "Blocks already written are new, the block
-        being written is old, new or junk with a wrong check, and blocks due later are still old." No working copy changes."""
-        name, seat, *args = call
-        if name == 'clear':  # from the highest block down; new is a zero block
+        being written is old, new or junk with a wrong check, and blocks due later are still old." No working copy changes. W9: "W6's cut rule includes the block, a
+        release standing or not"."""
+        if call[0] == 'clear':  # from the highest block down; new is a zero block
             self.tail -= n + (how == 'new')
             return
-        _, commit, blocks = self.asked(seat, *args)
-        if how == 'new' and n + 1 == blocks:  # the commit block is new
-            self.history.append(commit)
+        _, item, blocks = self.adds(call)
+        if how == 'new' and n + 1 == blocks:  # the commit block, or the release's one block, is new
+            self.log.append(item)
             self.used += blocks
         else:
             self.tail = n + (how != 'old')

@@ -4,7 +4,7 @@ use crate::ffi;
 use std::error::Error;
 use std::fmt;
 
-/// Why a call was refused: the lines of document 01's "When the engine says no", and 14 and 15 of document 02, with their numbers.
+/// Why a call was refused: the lines of document 01's "When the engine says no", and 14 to 16 of document 02, with their numbers.
 #[derive(Clone, Copy, Debug, PartialEq, Eq, Hash)]
 #[repr(u32)]
 pub enum Refusal {
@@ -32,15 +32,17 @@ pub enum Refusal {
     OutOfDate = 11,
     /// Update meets a conflict.
     Conflict = 12,
-    /// The commit does not fit in the store's unused blocks.
+    /// The commit or the release does not fit in the store's unused blocks.
     NoRoom = 13,
-    /// The store to commit to has a tail. This is checked right after [`StoreLayout`](Refusal::StoreLayout).
+    /// The store to commit to, or to release in, has a tail. This is checked right after [`StoreLayout`](Refusal::StoreLayout).
     Tail = 14,
     /// The seat that commits in turn doesn't hold the turn. This is checked right after [`Range`](Refusal::Range).
     NotHolding = 15,
+    /// The revision to release is released already. This is checked right after [`Range`](Refusal::Range).
+    Released = 16,
 }
 
-const REFUSALS: [Refusal; 15] = [
+const REFUSALS: [Refusal; 16] = [
     Refusal::StoreLength,
     Refusal::StoreCheck,
     Refusal::StoreLayout,
@@ -56,10 +58,11 @@ const REFUSALS: [Refusal; 15] = [
     Refusal::NoRoom,
     Refusal::Tail,
     Refusal::NotHolding,
+    Refusal::Released,
 ];
 
 impl Refusal {
-    /// The documents' number, 1 to 15.
+    /// The documents' number, 1 to 16.
     pub fn number(self) -> u32 {
         self as u32
     }
@@ -83,6 +86,7 @@ impl fmt::Display for Refusal {
             Refusal::NoRoom => "the store has no room",
             Refusal::Tail => "the store has a tail",
             Refusal::NotHolding => "the seat does not hold the turn",
+            Refusal::Released => "the revision is released already",
         };
         write!(f, "refusal {}: {why}", self.number())
     }

@@ -94,5 +94,7 @@ extern "C" {
     pub fn sheets_show(store: *const u8, store_len: usize, copy: *const u8, copy_len: usize, sheet: u32) -> Place;
     pub fn sheets_status(store: *const u8, store_len: usize, copy: *const u8, copy_len: usize, sheet: u32) -> Standing;
     pub fn sheets_log(store: *const u8, store_len: usize, revision: u32, sheet: u32) -> LogEntry;
+    pub fn sheets_release(store: *mut u8, store_len: usize, revision: u32, seat: u32, stamp: u32) -> Answer;
+    pub fn sheets_panel_read(store: *const u8, store_len: usize, revision: u32, sheet: u32) -> Place;
     pub fn sheets_replay(script: *const u8, script_len: usize, store: *mut u8, store_len: usize, copies: *mut u8, copies_len: usize, answers: *mut u8, answers_len: usize) -> Answer;
 }

@@ -40,7 +40,8 @@
 //! println!("{:?}, revision {}", sheet.bytes, sheet.revision);
 //! ```
 //!
-//! Seats that commit often take turns by a record, [`Turn`], and [`commit_in_turn`]. A list of calls by all four seats is made at once by [`replay`].
+//! Seats that commit often take turns by a record, [`Turn`], and [`commit_in_turn`]. A poolside panel shows what was released, by [`release`] and
+//! [`panel_read`]. A list of calls by all four seats is made at once by [`replay`].
 #![deny(missing_docs)]
 
 mod answers;
@@ -109,18 +110,18 @@ pub fn move_sheet(store: &[u8], copy: &mut [u8], from: u32, to: u32) -> Result<(
 
 /// The pending entries that the mask chooses become the next revision, which is the answer. The blocks in use stay as they are; the content blocks are written
 /// in rising order, then the commit block. Two stores of one size that began fresh and have no tail are equal byte by byte exactly if their histories are the
-/// same. A store that has a tail is refused with [`Refusal::Tail`]: see [`clear`].
+/// same, with the same releases in the same places. A store that has a tail is refused with [`Refusal::Tail`]: see [`clear`].
 pub fn commit(store: &mut [u8], copy: &mut [u8], stamp: u32, mask: u32) -> Result<u32, Refusal> {
     value(unsafe { ffi::sheets_commit(store.as_mut_ptr(), store.len(), copy.as_mut_ptr(), copy.len(), stamp, mask) })
 }
 
-/// Clears the tail of a store. Where contact is lost within a commit, the store ends in a tail: up to 32 content blocks of the next revision and at most one
-/// block with a wrong check. Every call but [`commit`], [`commit_cut`] and [`commit_in_turn`] works then, as if the tail were zero blocks. Clear writes zero
-/// blocks there, from the highest block down; without a tail it changes nothing.
+/// Clears the tail of a store. Where contact is lost within a commit or a release, the store ends in a tail: up to 32 content blocks of the next revision and
+/// at most one block with a wrong check. Every call but [`commit`], [`commit_cut`], [`commit_in_turn`] and [`release`] works then, as if the tail were zero
+/// blocks. Clear writes zero blocks there, from the highest block down; without a tail it changes nothing.
 ///
-/// Wherever the power fails within a commit or a clear, and the blocks written before are new, the block being written is old, new or has a wrong check, and
-/// those due later are old, the store found is accepted. Its history is the one before or the one with the whole commit, the latter exactly if the commit
-/// block is new. The working copy is outside of this.
+/// Wherever the power fails within a commit, a release or a clear, and the blocks written before are new, the block being written is old, new or has a wrong
+/// check, and those due later are old, the store found is accepted. Its history is the one before, or the one with the whole commit or the release, the latter
+/// exactly if the commit block or the release's block is new. The working copy is outside of this.
 ///
 /// ```
 /// use sheetstore::{self as sheets, Refusal, ALL, BLOCK, COPY_LEN};
@@ -254,6 +255,42 @@ pub fn status(store: &[u8], copy: &[u8], sheet: u32) -> Result<Standing, Refusal
 /// What a revision is, and what it did to a sheet.
 pub fn log(store: &[u8], revision: u32, sheet: u32) -> Result<LogEntry, Refusal> {
     answers::logged(unsafe { ffi::sheets_log(store.as_ptr(), store.len(), revision, sheet) })
+}
+
+/// Releases a revision, 1 to the last, for [`panel_read`]: one block, with the seat, 1 to 4, and the stamp, behind the blocks in use. It is no revision itself,
+/// and what [`read`], [`show`], [`status`] and [`log`] find follows from the commits alone. Revisions may be released in any order; one that is released
+/// already is refused with [`Refusal::Released`], a store that has a tail with [`Refusal::Tail`], as by [`commit`].
+///
+/// ```
+/// use sheetstore::{self as sheets, Refusal, ALL, BLOCK, COPY_LEN};
+///
+/// let mut store = vec![0; 32 * BLOCK];
+/// let mut copy = vec![0; COPY_LEN];
+/// sheets::create_store(&mut store)?;
+/// sheets::create_copy(&mut copy, 2)?;
+/// sheets::add(&store, &mut copy, 5, b"stop after 30 s")?;
+/// sheets::commit(&mut store, &mut copy, 7, ALL)?;
+/// sheets::edit(&store, &mut copy, 5, b"stop after 20 s")?;
+/// let last = sheets::commit(&mut store, &mut copy, 8, ALL)?;
+///
+/// assert_eq!(sheets::panel_read(&store, last, 5), Err(Refusal::Missing));
+/// sheets::release(&mut store, 1, 2, 9)?;
+/// assert_eq!(sheets::panel_read(&store, last, 5)?.bytes, b"stop after 30 s");
+/// assert_eq!(sheets::read(&store, last, 5)?.bytes, b"stop after 20 s");
+///
+/// assert_eq!(sheets::release(&mut store, 1, 2, 9), Err(Refusal::Released));
+/// sheets::release(&mut store, last, 2, 9)?;
+/// assert_eq!(sheets::panel_read(&store, last, 5)?.bytes, b"stop after 20 s");
+/// # Ok::<(), Refusal>(())
+/// ```
+pub fn release(store: &mut [u8], revision: u32, seat: u32, stamp: u32) -> Result<(), Refusal> {
+    done(unsafe { ffi::sheets_release(store.as_mut_ptr(), store.len(), revision, seat, stamp) })
+}
+
+/// What a poolside panel shows of a sheet: what [`read`] gives at the greatest released revision up to this one, whichever was released last. Where there is
+/// no such release, or its tree lacks the sheet, even if an older released one has it, the answer is [`Refusal::Missing`].
+pub fn panel_read(store: &[u8], revision: u32, sheet: u32) -> Result<Sheet<'_>, Refusal> {
+    part(unsafe { ffi::sheets_panel_read(store.as_ptr(), store.len(), revision, sheet) }, store, &[])
 }
 
 /// Makes the calls of a script in order, on one store and the working copies of seats 1 to 4 side by side. The buffers are checked once. The answers need

@@ -108,6 +108,22 @@ pub enum Call<'a> {
         /// The writes after which it stops.
         n: u32,
     },
+    /// [`release`](crate::release)
+    Release {
+        /// The revision.
+        revision: u32,
+        /// The seat that the release names.
+        seat: u32,
+        /// The release's stamp.
+        stamp: u32,
+    },
+    /// [`panel_read`](crate::panel_read)
+    Panel {
+        /// The revision.
+        revision: u32,
+        /// The sheet.
+        sheet: u32,
+    },
 }
 
 /// A list of calls by seats 1 to 4, for [`replay`](crate::replay).
@@ -123,7 +139,7 @@ impl Script {
     }
 
     /// Adds a call by a seat at the end. A seat that is not 1 to 4, and more than [`MAX_BYTES`] bytes, are refused with [`Refusal::Range`].
-    /// Read, log and clear, cut or not, need no seat, and any of the four will do.
+    /// Read, log, clear, cut or not, release and panel reading use no working copy, so any of the four seats will do; a release names its own.
     pub fn push(&mut self, seat: u32, call: Call<'_>) -> Result<(), Refusal> {
         let (kind, numbers, bytes): (u8, [u32; 3], &[u8]) = match call {
             Call::Add { sheet, bytes } => (1, [sheet, 0, 0], bytes),
@@ -141,6 +157,8 @@ impl Script {
             Call::Clear => (13, [0; 3], &[]),
             Call::CommitCut { stamp, mask, n } => (14, [stamp, mask, n], &[]),
             Call::ClearCut { n } => (15, [n, 0, 0], &[]),
+            Call::Release { revision, seat, stamp } => (20, [revision, stamp, seat], &[]),
+            Call::Panel { revision, sheet } => (21, [revision, sheet, 0], &[]),
         };
         if !(1..=4).contains(&seat) || bytes.len() > MAX_BYTES {
             return Err(Refusal::Range);
@@ -182,7 +200,7 @@ pub enum Reply<'a> {
     Revision(u32),
     /// A cut call stopped after its n writes.
     Stopped,
-    /// The sheet that was read. Its bytes are a part of the answers.
+    /// The sheet that was read, for a panel or not. Its bytes are a part of the answers.
     Read(Sheet<'a>),
     /// What a seat sees. The bytes are a part of the answers.
     Show(Shown<'a>),
@@ -226,7 +244,7 @@ fn reply(kind: u8, record: &[u8]) -> Result<Reply<'_>, Refusal> {
     Ok(match kind {
         14 | 15 if number(8) != 0 => Reply::Stopped,
         6 | 14 => Reply::Revision(number(4)),
-        9 => Reply::Read(sheet()),
+        9 | 21 => Reply::Read(sheet()),
         10 => Reply::Show(answers::shown(sheet())),
         11 => Reply::Status(answers::standing(ffi::Standing { refusal: 0, status: number(4), revision: number(8) })?),
         12 => Reply::Log(answers::logged(ffi::LogEntry {

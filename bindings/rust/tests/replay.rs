@@ -40,6 +40,8 @@ fn alone<'a>(store: &'a mut [u8], copies: &'a mut [u8], seat: u32, call: Call) -
         Call::Clear => sheets::clear(store).map(|_| Reply::Done),
         Call::CommitCut { stamp, mask, n } => cut(sheets::commit_cut(store, copy, stamp, mask, n), Reply::Revision),
         Call::ClearCut { n } => cut(sheets::clear_cut(store, n), |_| Reply::Done),
+        Call::Release { revision, seat, stamp } => sheets::release(store, revision, seat, stamp).map(|_| Reply::Done),
+        Call::Panel { revision, sheet } => sheets::panel_read(store, revision, sheet).map(Reply::Read),
     }
 }
 
@@ -84,6 +86,27 @@ fn every_kind() -> Vec<(u32, Call<'static>)> {
         (4, Call::CommitCut { stamp: 8, mask: 1 << 6, n: 2 }),
         (2, Call::CommitCut { stamp: 8, mask: 0, n: 0 }),
         (4, Call::Status { sheet: 6 }),
+        (1, Call::Panel { revision: 3, sheet: 6 }),
+        (3, Call::Release { revision: 2, seat: 4, stamp: u32::MAX }),
+        (3, Call::Release { revision: 2, seat: 1, stamp: 0 }),
+        (1, Call::Release { revision: 4, seat: 1, stamp: 0 }),
+        (1, Call::Release { revision: 1, seat: 5, stamp: 0 }),
+        (2, Call::Panel { revision: 3, sheet: 6 }),
+        (2, Call::Panel { revision: 3, sheet: 5 }),
+        (4, Call::Release { revision: 1, seat: 2, stamp: 9 }),
+        (2, Call::Panel { revision: 1, sheet: 5 }),
+        (2, Call::Panel { revision: 0, sheet: 5 }),
+        (2, Call::Panel { revision: 4, sheet: 5 }),
+        (2, Call::Panel { revision: 3, sheet: 32 }),
+        (4, Call::Edit { sheet: 6, bytes: b"C" }),
+        (4, Call::CommitCut { stamp: 10, mask: ALL, n: 1 }),
+        (1, Call::Release { revision: 3, seat: 1, stamp: 11 }),
+        (1, Call::Panel { revision: 3, sheet: 6 }),
+        (1, Call::Clear),
+        (1, Call::Release { revision: 3, seat: 1, stamp: 11 }),
+        (4, Call::Commit { stamp: 12, mask: ALL }),
+        (1, Call::Panel { revision: 4, sheet: 6 }),
+        (1, Call::Read { revision: 4, sheet: 6 }),
     ]
 }
 
@@ -117,6 +140,15 @@ fn a_script_is_its_calls_one_by_one() {
     assert_eq!((said[26], said[27]), (Ok(Reply::Stopped), Ok(Reply::Revision(3))));
     assert_eq!(said[28], Err(Refusal::Range));
     assert_eq!(said[29], Ok(Reply::Status(Standing { status: Status::UpToDate, revision: Some(3) })));
+    assert_eq!((said[30], said[31]), (Err(Refusal::Missing), Ok(Reply::Done)));
+    assert_eq!((said[32], said[33], said[34]), (Err(Refusal::Released), Err(Refusal::Range), Err(Refusal::Range)));
+    assert_eq!((said[35], said[36]), (Ok(Reply::Read(Sheet { bytes: b"A", revision: 2 })), Err(Refusal::Missing)));
+    assert_eq!((said[37], said[38]), (Ok(Reply::Done), Ok(Reply::Read(Sheet { bytes: b"A", revision: 1 }))));
+    assert_eq!((said[39], said[40], said[41]), (Err(Refusal::Missing), Err(Refusal::Range), Err(Refusal::Range)));
+    assert_eq!((said[43], said[44], said[45]), (Ok(Reply::Stopped), Err(Refusal::Tail), said[35]));
+    assert_eq!((said[46], said[47], said[48]), (Ok(Reply::Done), Ok(Reply::Done), Ok(Reply::Revision(4))));
+    assert_eq!(said[49], Ok(Reply::Read(Sheet { bytes: b"B", revision: 3 })));
+    assert_eq!(said[50], Ok(Reply::Read(Sheet { bytes: b"C", revision: 4 })));
     assert_eq!(answers[script.len() * RECORD_LEN..], [0x5a; 3]);
 }
 
@@ -124,7 +156,7 @@ fn a_script_is_its_calls_one_by_one() {
 fn the_answers_know_their_number() {
     let (script, (mut store, mut copies)) = (script_of(&every_kind()), fresh(16));
     let mut answers = vec![0; script.len() * RECORD_LEN];
-    assert_eq!(sheets::replay(&script, &mut store, &mut copies, &mut answers).unwrap().len(), 30);
+    assert_eq!(sheets::replay(&script, &mut store, &mut copies, &mut answers).unwrap().len(), 51);
     assert_eq!(sheets::replay(&Script::new(), &mut store, &mut copies, &mut []).unwrap().len(), 0);
 }
 
@@ -182,6 +214,42 @@ fn a_script_leaves_the_tail_of_a_cut_commit() {
     assert_eq!(sheets::commit(&mut store, &mut copies[COPY_LEN..2 * COPY_LEN], 7, ALL), Ok(1));
 }
 
+#[test]
+fn a_script_begins_on_a_damaged_release_and_makes_it_again() {
+    let (mut store, mut copies) = fresh(8);
+    sheets::add(&store, &mut copies[COPY_LEN..2 * COPY_LEN], 5, b"A").unwrap();
+    sheets::commit(&mut store, &mut copies[COPY_LEN..2 * COPY_LEN], 7, ALL).unwrap();
+    sheets::release(&mut store, 1, 3, 8).unwrap();
+    let (whole, settled) = (store.clone(), copies.clone());
+    store[3 * BLOCK + 6] = 4;
+    let (release, panel) = (Call::Release { revision: 1, seat: 3, stamp: 8 }, Call::Panel { revision: 1, sheet: 5 });
+    let bad = Call::Release { revision: 0, seat: 5, stamp: 8 };
+    let script = script_of(&[(1, panel), (1, release), (2, bad), (4, Call::Clear), (1, panel), (2, bad), (1, release), (1, panel), (1, release)]);
+    let mut answers = vec![0x5a; script.len() * RECORD_LEN];
+    let said: Vec<_> = sheets::replay(&script, &mut store, &mut copies, &mut answers).unwrap().collect();
+    let (none, read) = (Err(Refusal::Missing), Ok(Reply::Read(Sheet { bytes: b"A", revision: 1 })));
+    let (done, tail, range) = (Ok(Reply::Done), Err(Refusal::Tail), Err(Refusal::Range));
+    assert_eq!(said, [none, tail, tail, done, none, range, done, read, Err(Refusal::Released)]);
+    assert!(store == whole && copies == settled);
+}
+
+#[test]
+fn a_script_fills_a_store_with_releases() {
+    let (mut store, mut copies) = fresh(4);
+    let script = script_of(&[
+        (2, Call::Add { sheet: 5, bytes: b"A" }),
+        (2, Call::Commit { stamp: 7, mask: ALL }),
+        (1, Call::Release { revision: 1, seat: 1, stamp: 8 }),
+        (2, Call::Delete { sheet: 5 }),
+        (2, Call::Commit { stamp: 9, mask: ALL }),
+        (1, Call::Panel { revision: 1, sheet: 5 }),
+    ]);
+    let mut answers = vec![0x5a; script.len() * RECORD_LEN];
+    let said: Vec<_> = sheets::replay(&script, &mut store, &mut copies, &mut answers).unwrap().skip(2).collect();
+    let read = Ok(Reply::Read(Sheet { bytes: b"A", revision: 1 }));
+    assert_eq!(said, [Ok(Reply::Done), Ok(Reply::Done), Err(Refusal::NoRoom), read]);
+}
+
 /// The bytes of a record that are not zero, with their places.
 fn named(record: &[u8]) -> Vec<(usize, u8)> {
     record.iter().copied().enumerate().filter(|&(_, byte)| byte != 0).collect()
@@ -207,6 +275,29 @@ fn the_records_of_cut_calls_are_as_laid_out() {
 }
 
 #[test]
+fn the_records_of_releases_and_panel_readings_are_as_laid_out() {
+    let (mut store, mut copies) = fresh(8);
+    let script = script_of(&[
+        (2, Call::Add { sheet: 5, bytes: b"A" }),
+        (2, Call::Commit { stamp: 7, mask: ALL }),
+        (3, Call::Release { revision: 1, seat: 4, stamp: 0x0403_0201 }),
+        (1, Call::Panel { revision: 1, sheet: 5 }),
+        (4, Call::Release { revision: 0x0201_0001, seat: 0x0500_0001, stamp: 0 }),
+        (2, Call::Panel { revision: 0x0400_0000, sheet: 0x0100_0005 }),
+    ]);
+    let records: Vec<_> = script.as_bytes().chunks(RECORD_LEN).map(named).collect();
+    assert_eq!(records[2], [(0, 20), (1, 3), (4, 1), (8, 1), (9, 2), (10, 3), (11, 4), (12, 4)]);
+    assert_eq!(records[3], [(0, 21), (1, 1), (4, 1), (8, 5)]);
+    assert_eq!(records[4], [(0, 20), (1, 4), (4, 1), (6, 1), (7, 2), (12, 1), (15, 5)]);
+    assert_eq!(records[5], [(0, 21), (1, 2), (7, 4), (8, 5), (11, 1)]);
+    let mut answers = vec![0x5a; script.len() * RECORD_LEN];
+    let _ = sheets::replay(&script, &mut store, &mut copies, &mut answers).unwrap();
+    let answers: Vec<_> = answers.chunks(RECORD_LEN).map(named).collect();
+    assert_eq!(answers, [vec![], vec![(4, 1)], vec![], vec![(8, 1), (28, 1), (32, b'A')], vec![(0, 7)], vec![(0, 7)]]);
+    assert_eq!(store[3 * BLOCK..3 * BLOCK + 12], [6, 0, 0, 0, 1, 0, 4, 0, 1, 2, 3, 4]);
+}
+
+#[test]
 fn push_refuses_what_a_record_cannot_hold() {
     let mut script = Script::new();
     assert_eq!(script.push(0, Call::Show { sheet: 1 }), Err(Refusal::Range));
@@ -214,6 +305,8 @@ fn push_refuses_what_a_record_cannot_hold() {
     assert_eq!(script.push(257, Call::Show { sheet: 1 }), Err(Refusal::Range));
     assert_eq!(script.push(0, Call::Clear), Err(Refusal::Range));
     assert_eq!(script.push(5, Call::ClearCut { n: 1 }), Err(Refusal::Range));
+    assert_eq!(script.push(0, Call::Panel { revision: 1, sheet: 1 }), Err(Refusal::Range));
+    assert_eq!(script.push(5, Call::Release { revision: 1, seat: 1, stamp: 1 }), Err(Refusal::Range));
     assert_eq!(script.push(1, Call::Add { sheet: 1, bytes: &[0; MAX_BYTES + 1] }), Err(Refusal::Range));
     assert!(script.is_empty());
     assert_eq!(script.push(1, Call::Add { sheet: 1, bytes: &[0; MAX_BYTES] }), Ok(()));

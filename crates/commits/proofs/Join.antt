@@ -32,7 +32,6 @@ use Rattle.laws.proofs.Grows.{length-contents}
 use Rattle.laws.proofs.Invariant.{KeptSide}
 use Rattle.laws.proofs.Rows.{cond-any, length-rows, rows-any}
 use Rattle.laws.proofs.Store.{bare-held, tailed-none, taken-holds, taken-tailed}
-use Rattle.laws.proofs.Trees.{used-low}
 use Rattle.laws.proofs.WorkCopy.{holds-copy}
 use Rattle.laws.proofs.Writer.{freshes}
 use Rattle.laws.proofs.Writing.{Blocks, Sources, content-count, front-blanks, holds-blocks, line-count, source-bytes, tables-used, user-below}
@@ -135,7 +134,7 @@ module _ (store copy : Bytes) (used revision seat mask : ℕ) (changed places : 
   few = omega (arith, kept .room, seen .many)
 
   short : last h < 65_535
-  short = omega (arith, used-low h, kept .used, few)
+  short = omega (arith, kept .used, few)
 
   -- the lengths that the making of a plan asks
   pub may-plan : (length copy ≡ 16_896) × ((length changed ≡ 32) × ((length places ≡ 32) × (used ≤ 4_096)))

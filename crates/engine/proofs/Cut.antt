@@ -1,25 +1,28 @@
--- W6, the cut rule, for the code: "At whichever block the power fails", in a commit or in clearing, the store found is accepted, with the history before or the one with the whole commit, and
--- clearing leads back to a store without a tail. The writes are those of `commit_cut` and `clear_cut`: what whoever calls these functions learns is taken from their own contracts
+-- W6, the cut rule, for the code: "At whichever block the power fails", in a commit, a release or in clearing, the store found is accepted, with the history before or the one with the whole
+-- commit or the release, and clearing leads back to a store without a tail. The writes are those of `commit_cut` and `clear_cut`, and the one of `release`: what whoever calls these functions learns is taken from their own contracts
 -- (`Learnt`, in `Made`), of which no text is repeated here, and that the code meets them (`met`) stands in the same record.
 -- Assumes nothing.
 use Prim.Native.Nat.{_<_, _^_, _≤_, suc, zero, ℕ}
 use mathlib.Core.List.{[]}
 use mathlib.Core.Option.{none}
 use mathlib.Core.Path.{_∙_, _≡_, ap, subst, sym}
+use native.Mathlib.Omega.{arith}
 use denote.Ref.{RefT, now}
 use contract.Lifetimes.{Lfts}
 use lib.ListN.{take}
 use Rattle.block.specs.Buffer.{blockAt, withBlock}
-use Rattle.model.specs.Calls.{Created, Out, bothConditions, call, commitWrites, out, storeConditions, writtenFrom}
-use Rattle.model.specs.Cut.{Clearings, FoundCommit, FoundIn, Restored, Torn, Written, clearPlace, commitPlace, writeCount}
+use Rattle.model.specs.Calls.{Created, Out, bothConditions, call, commitWrites, out, storeConditions, storeOnlyConditions, writtenFrom}
+use Rattle.model.specs.Cut.{Clearings, FoundCommit, FoundIn, FoundRelease, FoundReleasing, Restored, Torn, Written, clearPlace, commitPlace, writeCount}
 use Rattle.model.specs.Demand2.{LaidStore}
 use Rattle.model.specs.History.{Bytes, last}
-use Rattle.model.specs.Machine.{Call, Clears, ClearsCut, Commits, CommitsCut, done, refused, stopped}
+use Rattle.model.specs.Log.{commits}
+use Rattle.model.specs.Machine.{Call, Clears, ClearsCut, Commits, CommitsCut, Release, done, refused, stopped}
+use Rattle.model.specs.Ordered.{ReadAs}
 use Rattle.model.specs.Refusals.{Clear, firstOf}
 use Rattle.model.specs.Store.{bareOf, blockCount, storeHistory, tailOf, usedOf}
 use Rattle.model.specs.Types.{answerOf}
 use Rattle.model.specs.declared.Answer.{Answer}
-use Rattle.laws.proofs.CutCommits.{cut-anywhere}
+use Rattle.laws.proofs.CutRule.{cut-anywhere}
 use Rattle.laws.proofs.Demand2.{demand-two}
 use Rattle.laws.proofs.Ordered.{ordered}
 use Rattle.engine.proofs.Demand2.{CodeDemand2, code-demand-two}
@@ -61,6 +64,15 @@ CodeFoundCommitting store copy stamp mask = Cut store copy (CommitsCut stamp mas
 
 abbrev pub CodeFoundClearing : Bytes → Bytes → Type 0
 CodeFoundClearing store f = (copy : Bytes) × Cut store copy ClearsCut (tailOf store) (clearPlace store) f
+
+-- in the code's release: it has one write
+pub record CodeFoundReleasing (store : Bytes) (R seat stamp : ℕ) (f : Bytes) : Type 0 where
+  pub copy : Bytes
+  pub after : Bytes
+  pub beside : Bytes
+  pub answer : Answer
+  pub made : Made store copy (Release R seat stamp) answer after beside
+  pub torn : Torn store after (usedOf store) f
 
 -- "any number of cut clearings", one after the other: from f to g
 abbrev pub CodeClearings : ℕ → Bytes → Bytes → Type 0
@@ -104,6 +116,13 @@ pub record CodeCutCommit (store copy : Bytes) (stamp mask : ℕ) : Type 0 where
   -- "Clearing, even after any number of cut clearings, then gives a store without a tail and the same history."
   pub restored : (f : Bytes) → CodeFoundCommitting store copy stamp mask f → (k : ℕ) (g : Bytes) → CodeClearings k f g → CodeRestored f g
 
+-- "W6's cut rule includes the block, a release standing or not."
+pub record CodeCutRelease (store : Bytes) (R seat stamp : ℕ) : Type 0 where
+  pub writes : {copy store′ copy′ : Bytes} {r : Answer} → Made store copy (Release R seat stamp) r store′ copy′ → WritesOne store (usedOf store) store store′
+  pub found : (f : Bytes) → CodeFoundReleasing store R seat stamp f → FoundRelease store R seat stamp f
+  pub accepts : (f : Bytes) → CodeFoundReleasing store R seat stamp f → CodeAccepts f
+  pub restored : (f : Bytes) → CodeFoundReleasing store R seat stamp f → (k : ℕ) (g : Bytes) → CodeClearings k f g → CodeRestored f g
+
 pub record CodeCut : Type 2 where
   -- the functions meet their contracts, of which `Made` and `Read` speak; so does `open`
   pub calls-meet : CodeDemand3
@@ -112,6 +131,8 @@ pub record CodeCut : Type 2 where
   pub commits : (store copy : Bytes) (stamp mask : ℕ) → stamp < 2 ^ 32 → Clear (bothConditions store copy (Commits stamp mask)) → CodeCutCommit store copy stamp mask
   -- an accepted store
   pub clears : (store : Bytes) → Clear (storeConditions store) → CodeCutClearing store
+  -- a release that no line refuses
+  pub releases : (store : Bytes) (R seat stamp : ℕ) → stamp < 2 ^ 32 → Clear (storeOnlyConditions store (Release R seat stamp)) → CodeCutRelease store R seat stamp
   -- a refusal comes whatever n is, and nothing is changed
   pub refuses : {store copy s s′ t t′ : Bytes} {stamp mask n q : ℕ} {r r′ : Answer} → Made store copy (Commits stamp mask) r s t → answerOf r ≡ refused q
       → Made store copy (CommitsCut stamp mask n) r′ s′ t′ → out (answerOf r′) s′ t′ ≡ out (refused q) store copy
@@ -132,6 +153,10 @@ found-in {store} {copy} {c} {writes} {place} {f} C = (
       (subst (λ (x : Bytes). Torn (C .before) x (place (C .n)) f) (left-is (C .step .next-made)) (C .torn)),
 )
 
+pub found-releasing : {store : Bytes} {R seat stamp : ℕ} {f : Bytes} → CodeFoundReleasing store R seat stamp f → FoundReleasing store R seat stamp f
+found-releasing {store} {R} {seat} {stamp} {f} C =
+    (0, omega arith, subst (λ (x : Bytes). Torn store x (usedOf store) f) (left-is (C .made)) (C .torn))
+
 clearings : (k : ℕ) (f g : Bytes) → CodeClearings k f g → Clearings k f g
 clearings zero f g e = e
 clearings (suc k) f g e = (e .0, found-in (e .1 .1), clearings k (e .0) g (e .2))
@@ -147,10 +172,10 @@ accepts-is : (f : Bytes) → firstOf (storeConditions f) ≡ none → CodeAccept
 accepts-is f t =
     let D = demand-two f [] in
     let L = D .store-accepted .0 t in
-    let e : L .0 ≡ storeHistory f = sym (D .store-read (L .0) (L .1) .0) in
+    let e : commits (L .0) ≡ storeHistory f = sym (D .store-read (L .0) (L .1) .1) in
     record {
       opens = λ κs x x′ r q l. code-demand-two .opens κs x x′ r l .accepted .1 (L .0, subst (λ (s : Bytes). LaidStore s (L .0)) (sym q) (L .1));
-      reads = λ R i le small. read-is f (storeHistory f) R i (ordered .another f (storeHistory f) (subst (LaidStore f) e (L .1)) .found R i le small);
+      reads = λ R i le small. read-is f (storeHistory f) R i (subst (ReadAs f) e (ordered .another f (L .0) (L .1)) .found R i le small);
     }
 
 restored-is : {f g : Bytes} → Restored f g → CodeRestored f g
@@ -185,6 +210,18 @@ code-cut = record {
         stops = λ n g m. ap (λ (o : Out). o .says) (made-is m) ∙ R .stops n g;
         usual = λ n g {copy} m m′. made-is m ∙ ap (λ (o : Created). out (o .says) (o .buffer) copy) (R .usual n g) ∙ sym (made-is m′);
         found = λ k g e. restored-is (R .found k g (clearings k store g e));
+      };
+  releases = λ store R seat stamp ty free.
+      let C = cut-anywhere store [] .releases R seat stamp ty free in
+      record {
+        writes = λ m. record {
+          only = left-is m ∙ C .order .each 0 (omega arith) ∙ sym (λ i. withBlock store (usedOf store) (blockAt (left-is m i) (usedOf store)));
+          past = C .order .past 0 (omega arith);
+          inside = C .order .inside 0 (omega arith);
+        };
+        found = λ f F. C .found f (found-releasing F);
+        accepts = λ f F. accepts-is f (C .found f (found-releasing F) .accepted);
+        restored = λ f F k g e. restored-is (C .found f (found-releasing F) .restored k g (clearings k f g e));
       };
   refuses = λ {store} {copy} {s} {s′} {t} {t′} {stamp} {mask} {n} {q} m e m′. made-is m′ ∙ cut-anywhere store copy .refuses stamp mask n q (sym (ap (λ (o : Out). o .says) (made-is m)) ∙ e);
   keeps = λ {store} {copy} {s} {s′} {t} {t′} {n} {q} m e m′.

@@ -16,9 +16,10 @@ use lib.ListN.{drop, take}
 use Rattle.model.specs.Calls.{Place, logCall, partOf, readPlace}
 use Rattle.model.specs.Demand2.{LaidStore}
 use Rattle.model.specs.History.{Bytes, History, commitAt, last, namer, present, sheet}
+use Rattle.model.specs.Log.{Log, commits}
 use Rattle.model.specs.Machine.{logOf}
 use Rattle.model.specs.Refusals.{noSheet}
-use Rattle.model.specs.Store.{blockCount, blockUsed, storeHistory, tailOf, usedOf}
+use Rattle.model.specs.Store.{blockCount, blockUsed, storeHistory, storeLog, tailOf, usedOf}
 use Rattle.model.specs.Tail.{Tailed}
 use Rattle.model.specs.Types.{answerOf}
 use Rattle.model.specs.declared.Answer.{Answer}
@@ -50,14 +51,14 @@ use Rattle.engine.proofs.read.Statement as read-statement
 
 -- what `open` answers on these bytes
 pub record Opens (store : Bytes) (r : Opened) : Type 0 where
-  -- it is `Open` exactly where they are the layout of some history, with a tail or without
-  pub accepted : ((t : Header) × (r ≡ Open t)) ↔ ((h : History) × LaidStore store h)
-  -- with that history's length as the last revision
-  pub length : (t : Header) (h : History) → r ≡ Open t → LaidStore store h → t .last ≡ last h
+  -- it is `Open` exactly where they are the layout of some history with its releases, with a tail or without
+  pub accepted : ((t : Header) × (r ≡ Open t)) ↔ ((g : Log) × LaidStore store g)
+  -- with the number of its commits as the last revision
+  pub length : (t : Header) (g : Log) → r ≡ Open t → LaidStore store g → t .last ≡ last (commits g)
   -- and U is the number of the blocks before its tail
-  pub uses : (t : Header) (h : History) → r ≡ Open t → (L : LaidStore store h) → t .used ≡ L .used
-  -- and the history that is read back is that history
-  pub read-back : (h : History) → LaidStore store h → storeHistory store ≡ h
+  pub uses : (t : Header) (g : Log) → r ≡ Open t → (L : LaidStore store g) → t .used ≡ L .used
+  -- and the history that is read back is that history, with its releases in their places
+  pub read-back : (g : Log) → LaidStore store g → (storeLog store ≡ g) × (storeHistory store ≡ commits g)
 
 pub record CodeDemand2 : Type 2 where
   pub open-meets : (M : Type 1) → open-statement.statement M
@@ -68,13 +69,13 @@ pub record CodeDemand2 : Type 2 where
   pub opens : (κs : Lfts 1) (x x′ : RefT Bytes) (r : Opened) → open-reads.Learnt κs (x, tt) r (x′, tt) → Opens (now x) r
   -- of the layout of a history, `count` answers how many blocks its tail has
   pub counts : (κs : Lfts 1) (x x′ : RefT Bytes) (used used′ r : ℕ) → count-reads.Learnt κs (x, (used, tt)) r (x′, (used′, tt))
-      → (h : History) (L : LaidStore (now x) h) → r ≡ L .tail
+      → (g : Log) (L : LaidStore (now x) g) → r ≡ L .tail
   -- `read` hands back the bytes of its trees
   pub reads : (κs : Lfts 1) (x x′ r : RefT Bytes) (R i R′ i′ : ℕ) → read-reads.Learnt κs (x, (R, (i, tt))) r (x′, (R′, (i′, tt)))
-      → (h : History) → LaidStore (now x) h → R ≤ last h → i ≤ 31 → (b : Bytes) → sheet h R i ≡ some b → now r ≡ b
+      → (g : Log) → LaidStore (now x) g → R ≤ last (commits g) → i ≤ 31 → (b : Bytes) → sheet (commits g) R i ≡ some b → now r ≡ b
   -- and `log` tells of its commits
   pub logs : (κs : Lfts 1) (x x′ : RefT Bytes) (r : Answer) (R i R′ i′ : ℕ) → log-reads.Learnt κs (x, (R, (i, tt))) r (x′, (R′, (i′, tt)))
-      → (h : History) → LaidStore (now x) h → 1 ≤ R → R ≤ last h → i ≤ 31 → answerOf r ≡ logOf (commitAt h R) i
+      → (g : Log) → LaidStore (now x) g → 1 ≤ R → R ≤ last (commits g) → i ≤ 31 → answerOf r ≡ logOf (commitAt (commits g) R) i
 
 -- THE PROOF
 
@@ -89,16 +90,16 @@ opens-as store r e =
         λ p. D .store-accepted .0 (open-accepted store (p .0) (sym e ∙ p .1) .0),
         λ p. (headOf store, e ∙ accepted-open store (D .store-accepted .1 p)),
       );
-      length = λ t h o L. open-accepted store t (sym e ∙ o) .1 ∙ ap last (D .store-read h L .0);
-      uses = λ t h o L. open-accepted store t (sym e ∙ o) .2 ∙ D .store-read h L .1;
-      read-back = λ h L. D .store-read h L .0;
+      length = λ t g o L. open-accepted store t (sym e ∙ o) .1 ∙ ap last (D .store-read g L .1);
+      uses = λ t g o L. open-accepted store t (sym e ∙ o) .2 ∙ D .store-read g L .2;
+      read-back = λ g L. let q = D .store-read g L in (q .0, q .1);
     }
 
 -- the layout of a history is open, with that history in it
-laid-open : (store : Bytes) (h : History) → LaidStore store h → (openOf store ≡ Open (headOf store)) × (storeHistory store ≡ h)
-laid-open store h L =
+laid-open : (store : Bytes) (g : Log) → LaidStore store g → (openOf store ≡ Open (headOf store)) × (storeHistory store ≡ commits g)
+laid-open store g L =
     let D = demand-two store [] in
-    (accepted-open store (D .store-accepted .1 (h, L)), D .store-read h L .0)
+    (accepted-open store (D .store-accepted .1 (g, L)), D .store-read g L .1)
 
 module _ (store : Bytes) (e : openOf store ≡ Open (headOf store)) (R i : ℕ) (l : R ≤ last (storeHistory store)) (g : i ≤ 31) where
   in-line : (noSheet i || ltb (last (storeHistory store)) R) ≡ false
@@ -130,13 +131,13 @@ code-demand-two = record {
   read-meets = λ M. read-met.met;
   log-meets = λ M. log-met.met;
   opens = λ κs x x′ r e. opens-as (now x) r e;
-  counts = λ κs x x′ used used′ r e h L. e ∙ demand-two (now x) [] .store-read h L .2;
-  reads = λ κs x x′ r R i R′ i′ e h L l g b s.
-      let o = laid-open (now x) h L in
+  counts = λ κs x x′ used used′ r e g L. e ∙ demand-two (now x) [] .store-read g L .3;
+  reads = λ κs x x′ r R i R′ i′ e k L l g b s.
+      let o = laid-open (now x) k L in
       e .bytes
       ∙ read-bytes (now x) (o .0) R i (subst (λ (y : History). R ≤ last y) (sym (o .1)) l) g b (subst (λ (y : History). sheet y R i ≡ some b) (sym (o .1)) s);
-  logs = λ κs x x′ r R i R′ i′ e h L one l g.
-      let o = laid-open (now x) h L in
+  logs = λ κs x x′ r R i R′ i′ e k L one l g.
+      let o = laid-open (now x) k L in
       e
       ∙ log-tells (now x) (o .0) R i (subst (λ (y : History). R ≤ last y) (sym (o .1)) l) g one
       ∙ ap (λ (y : History). logOf (commitAt y R) i) (o .1);

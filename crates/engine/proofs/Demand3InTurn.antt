@@ -9,10 +9,11 @@ use denote.Ref.{RefT, now}
 use lib.ListN.{length, set}
 use lib.Seq.{take-length}
 use Rattle.model.specs.Calls.{Buffers, Out, freshBuffers, out}
-use Rattle.model.specs.Demand3.{Brings, Finds, NothingPending, WholeList, copyIn}
+use Rattle.model.specs.Demand3.{Brings, Finds, NothingPending, PanelFinds, WholeList, copyIn}
 use Rattle.model.specs.History.{Bytes, History}
+use Rattle.model.specs.Log.{Placed}
 use Rattle.model.specs.Machine.{Answer, Update, fresh}
-use Rattle.model.specs.Run.{Turn, accepted}
+use Rattle.model.specs.Run.{Turn, accepted, acceptedMarks}
 use Rattle.model.specs.Shows.{Shows}
 use Rattle.model.specs.Types.{answerOf}
 use Rattle.model.specs.declared.Answer.{Answer as TheAnswer}
@@ -26,7 +27,7 @@ use Rattle.turns.specs.declared.Turned.{Turned}
 use Rattle.engine.proofs.commit_in_turn.Met as in-turn-met
 use Rattle.engine.proofs.commit_in_turn.Reads as in-turn-reads
 use Rattle.engine.proofs.commit_in_turn.Statement as in-turn-statement
-use Rattle.engine.proofs.Demand3.{CodeDemand3, Made, Read, code-demand-three, made-is, read-is}
+use Rattle.engine.proofs.Demand3.{CodeDemand3, Made, PanelRead, Read, code-demand-three, made-is, panel-is, read-is}
 use Rattle.turns.proofs.Mixed.{demand-three-in-turn}
 use Rattle.turns.proofs.Traces.{CodeTurns, TurnMade, code-turns, left-made, turn-made-is}
 
@@ -58,8 +59,8 @@ pub data MixedTrace : Buffers → TurnRecord → List Move → List Spoken → B
       → Through (b .store) (copyIn b k) t stamp mask r store′ copy′
       → MixedTrace (record { store = store′; copies = set (b .copies) (k - 1) copy′ }) t ms ss b′ t′ → MixedTrace b t (commits k stamp mask ∷ ms) (told (answerOf r) ∷ ss) b′ t′
 
--- of N blocks and the list ms, where ss are the answers, b and t what the calls leave, and h the commits that were accepted among those that got through
-pub record CodeMixedList (N : ℕ) (ms : List Move) (ss : List Spoken) (b : Buffers) (t : TurnRecord) (h : History) : Type 0 where
+-- of N blocks and the list ms, where ss are the answers, b and t what the calls leave, h the commits that were accepted among those that got through and ps the releases
+pub record CodeMixedList (N : ℕ) (ms : List Move) (ss : List Spoken) (b : Buffers) (t : TurnRecord) (h : History) (ps : List Placed) : Type 0 where
   -- every answer, the history in the store, the entries in the copies and the record after it are those of the machine with a record beside it
   pub answer : ss ≡ map spokenOf (saidBy (table (fresh N) free) ms)
   pub shows : Shows N b (moved (table (fresh N) free) ms .machine)
@@ -68,21 +69,26 @@ pub record CodeMixedList (N : ℕ) (ms : List Move) (ss : List Spoken) (b : Buff
   pub turn : numbersOf t ≡ turnAfter free (turnsIn ms)
   -- "The history follows from the commits that got through."
   pub accepts : moved (table (fresh N) free) ms .machine .history ≡ h
+  pub marks : moved (table (fresh N) free) ms .machine .marks ≡ ps
   -- of these commits demand 3 says what it says: "reading any sheet at R finds exactly the bytes that the first R accepted commits leave on an empty tree (or refusal 8)"
   pub found : (R i : ℕ) → R ≤ length h → i ≤ 31 → Read (b .store) h R i
+  -- a panel finds the same at the greatest released revision up to R, or refusal 8
+  pub panel : (R i : ℕ) → R ≤ length h → i ≤ 31 → PanelRead (b .store) h ps R i
   -- "an update to R by a seat with nothing pending brings each chosen sheet to the same"
   pub brought : (k mask R : ℕ) → 1 ≤ k → k ≤ 4 → (mask ≡ 0 → ⊥) → R ≤ length h → NothingPending b h k
       → {r : TheAnswer} {store′ copy′ : Bytes} → Made (b .store) (copyIn b k) (Update mask R) r store′ copy′ → Brings (out (answerOf r) store′ copy′) h mask R
   -- "and what is found at R stays so after every longer list", of calls of every kind
   pub lasting : {us : List Move} {qs : List Spoken} {b′ : Buffers} {t′ : TurnRecord} → ValidMoves us → MixedTrace b t us qs b′ t′
       → (R i : ℕ) → R ≤ length h → i ≤ 31 → Read (b′ .store) h R i
+  pub lasting-panel : {us : List Move} {qs : List Spoken} {b′ : Buffers} {t′ : TurnRecord} → ValidMoves us → MixedTrace b t us qs b′ t′
+      → (R i : ℕ) → R ≤ length h → i ≤ 31 → PanelRead (b′ .store) h (acceptedMarks (fresh N) (through free (ms ++ us))) R i
 
 pub record CodeDemand3InTurn : Type 2 where
   pub ordinary : CodeDemand3
   pub turns : CodeTurns
   pub in-turn-meets : (M : Type 1) → in-turn-statement.statement M
   pub whole : (N : ℕ) (ms : List Move) → 2 ≤ N → N ≤ 4_096 → ValidMoves ms → (ss : List Spoken) (b : Buffers) (t : TurnRecord)
-      → MixedTrace (freshBuffers N) (recordOf free) ms ss b t → CodeMixedList N ms ss b t (accepted (fresh N) (through free ms))
+      → MixedTrace (freshBuffers N) (recordOf free) ms ss b t → CodeMixedList N ms ss b t (accepted (fresh N) (through free ms)) (acceptedMarks (fresh N) (through free ms))
 
 -- THE PROOF
 
@@ -125,7 +131,8 @@ code-demand-three-in-turn = record {
       let start : Bench = bench (freshBuffers N) free in
       let W = demand-three-in-turn N ms lo hi v in
       let same : b ≡ movedOn start ms .buffers = ap (λ (x : Bench). x .buffers) (q .1) in
-      let D : WholeList N (through free ms) b h = subst (λ (x : Buffers). WholeList N (through free ms) x h) (sym same) (W .whole) in
+      let ps : List Placed = acceptedMarks (fresh N) (through free ms) in
+      let D : WholeList N (through free ms) b h ps = subst (λ (x : Buffers). WholeList N (through free ms) x h ps) (sym same) (W .whole) in
       record {
         answer = q .0 ∙ ap (map spokenOf) (W .answer);
         shows =
@@ -134,10 +141,16 @@ code-demand-three-in-turn = record {
         beside = ap (λ (x : Bench). x .turn) (q .1) ∙ W .beside;
         turn = ap (λ (x : Bench). x .turn) (q .1) ∙ W .turn;
         accepts = W .history;
+        marks = W .marks;
+        panel = λ R i le small. panel-is (b .store) h ps R i (D .panel R i le small);
         found = λ R i le small. read-is (b .store) h R i (D .found R i le small);
         brought = λ k mask R l g nz le np m. subst (λ (o : Out). Brings o h mask R) (sym (made-is m)) (D .brought k mask R l g nz le np);
         lasting = λ {us} {qs} {b′} {t′} w U R i le small.
             let p = traced U .1 ∙ ap (λ (x : Bench). movedOn x us) (q .1) ∙ sym (moved-append start ms us) in
             read-is (b′ .store) h R i (subst (λ (x : Bench). Finds (x .buffers) h R i) (sym p) (W .lasting us w R i le small));
+        lasting-panel = λ {us} {qs} {b′} {t′} w U R i le small.
+            let p = traced U .1 ∙ ap (λ (x : Bench). movedOn x us) (q .1) ∙ sym (moved-append start ms us) in
+            let qs : List Placed = acceptedMarks (fresh N) (through free (ms ++ us)) in
+            panel-is (b′ .store) h qs R i (subst (λ (x : Bench). PanelFinds (x .buffers) h qs R i) (sym p) (W .lasting-panel us w R i le small));
       };
 }

@@ -1,8 +1,8 @@
 -- What the engine answers and leaves for any request: the machine's call on the buffers, or create.
 -- Assumes nothing.
-use Rattle.model.specs.Calls.{Created, Out, Place, call, createCopy, createStore, readPlace, showPlace}
+use Rattle.model.specs.Calls.{Created, Out, Place, call, createCopy, createStore, panelPlace, readPlace, showPlace}
 use Rattle.model.specs.History.{Bytes}
-use Rattle.model.specs.Machine.{Add, Answer, Call, Clears, ClearsCut, Commits, CommitsCut, Copy, Delete, Edit, Log, Move, Read, Revert, Show, Status, Update}
+use Rattle.model.specs.Machine.{Add, Answer, Call, Clears, ClearsCut, Commits, CommitsCut, Copy, Delete, Edit, Log, Move, Panel, Read, Release, Revert, Show, Status, Update}
 use Rattle.model.specs.Types.{answerOf, placeOf}
 use Rattle.inner.specs.Performs.{callOf}
 use Rattle.inner.specs.declared.Reply.{Reply}
@@ -10,7 +10,7 @@ use Rattle.inner.specs.declared.Reply.the-variants.{At, Said}
 use Rattle.engine.specs.declared.Request.{Request as TheRequest}
 use Rattle.engine.specs.declared.Request.the-variants.{Call as ToCall, CreateCopy, CreateStore}
 
--- what a reply means: an answer of the machine, or of read and show the place
+-- what a reply means: an answer of the machine, or of read, a panel's reading and show the place
 pub data Tells : Type 0 where
   says : Answer → Tells
   stands : Place → Tells
@@ -31,7 +31,7 @@ answered t s c = record { tells = t; store = s; copy = c }
 abbrev pub outSaid : Out → Answered
 outSaid o = answered (says (o .says)) (o .store) (o .copy)
 
--- any call: read and show answer the place, and leave both buffers
+-- any call: read, a panel's reading and show answer the place, and leave both buffers
 abbrev pub called : Bytes → Bytes → Call → Answered
 called store copy (Add i x) = outSaid (call store copy (Add i x))
 called store copy (Edit i x) = outSaid (call store copy (Edit i x))
@@ -48,6 +48,8 @@ called store copy (Log R i) = outSaid (call store copy (Log R i))
 called store copy Clears = outSaid (call store copy Clears)
 called store copy (CommitsCut stamp mask n) = outSaid (call store copy (CommitsCut stamp mask n))
 called store copy (ClearsCut n) = outSaid (call store copy (ClearsCut n))
+called store copy (Release R seat stamp) = outSaid (call store copy (Release R seat stamp))
+called store copy (Panel R i) = answered (stands (panelPlace store R i)) store copy
 
 -- "Create takes the buffer it makes": the other stays
 abbrev pub storeSaid : Created → Bytes → Answered

@@ -1,16 +1,16 @@
-// Every call of document 01, the clearing of a tail, commit and clearing that stop after n block writes, and commit through the turn record, total: each checks what it is handed in
-// the document's order, and either does its work or answers the refusal and leaves every buffer unchanged.
+// Every call of document 01, the clearing of a tail, commit and clearing that stop after n block writes, commit through the turn record, release and a panel's reading, total: each
+// checks what it is handed in the document's order, and either does its work or answers the refusal and leaves every buffer unchanged.
 // Each promise is one equation with the call's meaning in crates/model/specs/Calls.antt, of the commit through the record in crates/turns/specs/InTurn.antt. `call` takes any of the
 // others as one request (specs/Request.antt).
 ghost use mathlib.Core.List.{[]};
 ghost use mathlib.Core.Path.{_≡_};
-ghost use Rattle.model.specs.Calls.{addCall, clearCall, clearCutCall, commitCall, commitCutCall, copyCall, createCopy, createStore, deleteCall, editCall, logCall, moveCall, out, partOf, readPlace, revertCall, showPlace, sizeCondition, statusCall, updateCall};
-ghost use Rattle.model.specs.Types.{actionNumber, answerOf, createdAs, numberOf, sourceRevision, sourceSheet};
+ghost use Rattle.model.specs.Calls.{addCall, clearCall, clearCutCall, commitCall, commitCutCall, copyCall, createCopy, createStore, deleteCall, editCall, logCall, moveCall, out, panelPlace, partOf, readPlace, releaseCall, revertCall, showPlace, sizeCondition, statusCall, updateCall};
+ghost use Rattle.model.specs.Types.{actionNumber, answerOf, createdAs, numberOf, placeOf, sourceRevision, sourceSheet};
 ghost use Rattle.engine.specs.MayCommit.{MayCommit};
 ghost use Rattle.engine.specs.Part.{PartAt, ShownAt};
 ghost use Rattle.engine.specs.Request.{answered, called, requested, tellsOf};
 ghost use Rattle.inner.specs.Performs.{Within, callOf};
-ghost use Rattle.inner.specs.Place.{Located};
+ghost use Rattle.inner.specs.Place.{Inside, Located};
 ghost use Rattle.turns.specs.InTurn.{inTurnCall};
 ghost use Rattle.turns.specs.Turns.{numbersOf};
 use entries::Checked;
@@ -74,11 +74,11 @@ pub fn read_place(store: &[u8], revision: u32, sheet: u32) -> Place
     }
 }
 
-// The sheet's bytes, a part of the store; refused, the empty part at the store's start.
-pub fn read(store: &[u8], revision: u32, sheet: u32) -> &[u8]
-    ensures { λ r. ⌜ PartAt (store .entry) r (partOf (readPlace (now (store .entry)) revision sheet)) ⌝ }
+// The part of the store at a place; refused, the empty part at the store's start.
+fn part_at(store: &[u8], place: Place) -> &[u8]
+    requires { ⌜ Inside (now store) [] place ⌝ }
+    ensures { λ r. ⌜ PartAt (store .entry) r (partOf (placeOf place)) ⌝ }
 {
-    let place = read_place(store, revision, sheet);
     match place {
         Place::Refused(_) => &store[0..0],
         Place::InStore(p, _) => {
@@ -88,6 +88,33 @@ pub fn read(store: &[u8], revision: u32, sheet: u32) -> &[u8]
         }
         Place::InCopy(_) => &store[0..0],
     }
+}
+
+// The sheet's bytes, a part of the store; refused, the empty part at the store's start.
+pub fn read(store: &[u8], revision: u32, sheet: u32) -> &[u8]
+    ensures { λ r. ⌜ PartAt (store .entry) r (partOf (readPlace (now (store .entry)) revision sheet)) ⌝ }
+{
+    let place = read_place(store, revision, sheet);
+    part_at(store, place)
+}
+
+// The companion of a panel's reading: what `read_place` gives at the greatest released revision up to this one, and refusal 8 if there is none.
+pub fn panel_place(store: &[u8], revision: u32, sheet: u32) -> Place
+    ensures { λ r. ⌜ Located (now (store .entry)) [] (panelPlace (now (store .entry)) revision sheet) r ⌝ }
+{
+    let opened = store::open(store);
+    match opened {
+        Opened::Refused(k) => Place::Refused(k),
+        Opened::Open(h) => inner::panel_in(store, h, revision, sheet),
+    }
+}
+
+// What a panel shows of a sheet, a part of the store; refused, the empty part at the store's start.
+pub fn panel_read(store: &[u8], revision: u32, sheet: u32) -> &[u8]
+    ensures { λ r. ⌜ PartAt (store .entry) r (partOf (panelPlace (now (store .entry)) revision sheet)) ⌝ }
+{
+    let place = panel_place(store, revision, sheet);
+    part_at(store, place)
 }
 
 // Seat, stamp and number of changes of a commit, and what it did to the sheet.
@@ -310,6 +337,22 @@ pub fn clear(store: &mut [u8]) -> Answer
     clear_cut(store, 33)
 }
 
+// ---- a release
+
+// Release: the poolside panels may show this revision.
+pub fn release(store: &mut [u8], revision: u32, seat: u32, stamp: u32) -> Answer
+    ensures { λ r. ⌜ createdAs r (now (store .exit)) ≡ releaseCall (now (store .entry)) revision seat stamp ⌝ }
+{
+    let opened = store::open(store);
+    match opened {
+        Opened::Refused(k) => Answer::Refused(k),
+        Opened::Open(h) => {
+            let filed = inner::release_in(store, h, revision, seat, stamp);
+            filed.answer
+        }
+    }
+}
+
 // ---- any call
 
 // A request: create of the store, create of the copy for a seat, or a call.
@@ -319,7 +362,7 @@ pub enum Request {
     Call(Call),
 }
 
-// One of the fifteen calls, by its own function.
+// One of the seventeen calls, by its own function.
 fn call_named(store: &mut [u8], copy: &mut [u8], named: Call, bytes: &[u8]) -> Reply
     ensures { λ r. ⌜ (answered (tellsOf r) (now (store .exit)) (now (copy .exit)) ≡ called (now (store .entry)) (now (copy .entry)) (callOf named (now (bytes .entry)))) × Within (now (store .exit)) (now (copy .exit)) r ⌝ }
 {
@@ -339,6 +382,8 @@ fn call_named(store: &mut [u8], copy: &mut [u8], named: Call, bytes: &[u8]) -> R
         Call::Clear => Reply::Said(clear(store)),
         Call::CommitCut(stamp, mask, n) => Reply::Said(commit_cut(store, copy, stamp, mask, n)),
         Call::ClearCut(n) => Reply::Said(clear_cut(store, n)),
+        Call::Release(revision, seat, stamp) => Reply::Said(release(store, revision, seat, stamp)),
+        Call::Panel(revision, sheet) => Reply::At(panel_place(store, revision, sheet)),
     }
 }
 
@@ -375,6 +420,7 @@ pub fn number(refusal: Refusal) -> u32
         Refusal::NoRoom => 13,
         Refusal::Tail => 14,
         Refusal::NotHolding => 15,
+        Refusal::Released => 16,
     }
 }
 

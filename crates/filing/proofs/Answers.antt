@@ -22,7 +22,6 @@ use Rattle.model.specs.declared.Answer.the-variants.{Refused, Revision as TheRe
 use Rattle.model.specs.declared.Refusal.{Refusal}
 use Rattle.model.specs.declared.Refusal.the-variants.{NoRoom as NoSpace, NothingPending, OutOfDate, Range}
 use Rattle.laws.proofs.Accepted.{accepted-kept, accepted-seen, both}
-use Rattle.laws.proofs.Trees.{used-low}
 use Rattle.commits.proofs.Answers.{told-done, told-no-room, told-nothing, told-stopped}
 use Rattle.commits.specs.Outcome.{Answered, Asked, RightFlags, enough}
 use Rattle.commits.specs.declared.Outcome.{Outcome}
@@ -123,7 +122,7 @@ module _ (store copy : Bytes) (v : View) (F : Fitting store copy v) where
   taken = fitting-accepted store copy v F
 
   last-small : last (storeHistory store) < 4_096
-  last-small = let K = accepted-kept store copy taken in omega (arith, used-low (storeHistory store), K .used, K .room, accepted-seen store copy taken .many)
+  last-small = let K = accepted-kept store copy taken in omega (arith, K .used, K .room, accepted-seen store copy taken .many)
 
   pub next-small : v .last + 1 < 65_536
   next-small = omega (arith, last-small, F .viewed .opened .last)

@@ -5,3 +5,4 @@ pub mod Changing
 pub mod Showing
 pub mod Performing
 pub mod Clearing
+pub mod Releasing

@@ -8,9 +8,9 @@ use native.Mathlib.Omega.{arith}
 use borrow.Author.Tests.{eqb-true, not-false}
 use lib.Dec.{eqb, leb}
 use lib.ListN.{drop, take}
-use Rattle.model.specs.Calls.{Created, Out, Place as Spot, call, changeCall, clearCall, clearCutCall, commitCall, commitCutCall, heard, logCall, out, readPlace, showPlace, sideIn, statusCall}
+use Rattle.model.specs.Calls.{Created, Out, Place as Spot, beside, call, changeCall, clearCall, clearCutCall, commitCall, commitCutCall, heard, logCall, out, panelPlace, readPlace, releaseCall, showPlace, sideIn, statusCall}
 use Rattle.model.specs.History.{Bytes, last}
-use Rattle.model.specs.Machine.{Answer as Said·, Call, Clears, ClearsCut, Log, Read, Show, Side, Status, bytes, done, stopped, withTail}
+use Rattle.model.specs.Machine.{Answer as Said·, Call, Clears, ClearsCut, Log, Panel, Read, Release, Show, Side, Status, bytes, done, stopped, withTail}
 use Rattle.model.specs.Refusals.{Clear, tailConditions}
 use Rattle.model.specs.Run.{Typed, sideStep}
 use Rattle.model.specs.Shows.{Seen}
@@ -31,7 +31,7 @@ use Rattle.filing.proofs.Keeping.{inner-cut}
 use Rattle.filing.specs.Filed.{FiledAs, innerCut}
 use Rattle.filing.specs.declared.Filed.{Filed}
 use Rattle.inner.proofs.Changing.{cut-tailed, local-fits}
-use Rattle.inner.specs.Performs.{CommitsAs, Performs, Within, callOf, stayAs, told}
+use Rattle.inner.specs.Performs.{CommitsAs, Performs, ReleasesAs, Within, callOf, stayAs, told}
 use Rattle.inner.specs.Place.{Inside, Located}
 use Rattle.inner.specs.declared.Call.{Call as TheCall}
 use Rattle.inner.specs.declared.Performed.{Performed}
@@ -133,6 +133,16 @@ module _ (store copy : Bytes) (v : View) (F : Fitting store copy v) where
   pub reads : (R i : ℕ) (x : Place) {p : Performed} → Located store [] (readPlace store R i) x → p ≡ stayAs v (At x) → Performs store copy v (Read R i) p store copy
   reads R i x L q =
       stays (Read R i) tt (At x) (ap (λ (a : Said·). out a store copy) (none-heard store copy x (L .inside) ∙ ap (heard store []) (L .is))) (none-inside store copy x (L .inside)) q
+
+  pub panels : (R i : ℕ) (x : Place) {p : Performed} → Located store [] (panelPlace store R i) x → p ≡ stayAs v (At x) → Performs store copy v (Panel R i) p store copy
+  panels R i x L q =
+      stays (Panel R i) tt (At x) (ap (λ (a : Said·). out a store copy) (none-heard store copy x (L .inside) ∙ ap (heard store []) (L .is))) (none-inside store copy x (L .inside)) q
+
+  pub releases : (R seat stamp : ℕ) → stamp < 2 ^ 32 → (f : Filed) {store′ : Bytes} → ReleasesAs (releaseCall store R seat stamp) f store′
+      → Performs store copy v (Release R seat stamp) (record { reply = Said (f .answer); used = f .used; last = f .last }) store′ copy
+  releases R seat stamp ty f {store′} A =
+      let w : out (answerOf (f .answer)) store′ copy ≡ call store copy (Release R seat stamp) = ap (λ (o : Created). beside o copy) (A .is) in
+      record { is = w; within = tt; fits = call-fitting store copy v F (Release R seat stamp) ty w (A .used) (A .last) }
 
   pub shows : (i : ℕ) (x : Place) {p : Performed} → Located store copy (showPlace store copy i) x → p ≡ stayAs v (At x) → Performs store copy v (Show i) p store copy
   shows i x L q = stays (Show i) tt (At x) (ap (λ (y : Spot). out (heard store copy y) store copy) (L .is)) (L .inside) q

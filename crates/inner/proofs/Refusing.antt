@@ -10,7 +10,8 @@ use lib.Dec.{eqb}
 use Rattle.model.specs.Calls.{storeConditions, storeRefusal, storeSide}
 use Rattle.model.specs.History.{Bytes}
 use Rattle.model.specs.Machine.{Call}
-use Rattle.model.specs.Refusals.{Condition, _when_, conditions, firstOf}
+use Rattle.model.specs.Refusals.{Condition, _when_, firstOf}
+use Rattle.model.specs.Run.{ownConditions}
 use Rattle.model.specs.Store.{tailOf}
 use Rattle.laws.proofs.Conditions.{clear, clear-first}
 
@@ -32,8 +33,8 @@ tail-first store ls e t =
 module _ (store : Bytes) (c : Call) where
   pub store-refused : (n : ℕ) → firstOf (storeConditions store) ≡ some n → storeRefusal store c ≡ some n
   unfolding storeRefusal
-  store-refused n e = first-stays (storeConditions store) (conditions (storeSide store) c) n e
+  store-refused n e = first-stays (storeConditions store) (ownConditions (storeSide store) c) n e
 
-  pub store-open : firstOf (storeConditions store) ≡ none → storeRefusal store c ≡ firstOf (conditions (storeSide store) c)
+  pub store-open : firstOf (storeConditions store) ≡ none → storeRefusal store c ≡ firstOf (ownConditions (storeSide store) c)
   unfolding storeRefusal
-  store-open e = clear-first (storeConditions store) (conditions (storeSide store) c) (clear (storeConditions store) e)
+  store-open e = clear-first (storeConditions store) (ownConditions (storeSide store) c) (clear (storeConditions store) e)

@@ -2,12 +2,12 @@
 ghost use mathlib.Core.Bool.{_||_};
 ghost use mathlib.Core.List.{[]};
 ghost use mathlib.Core.Path.{_≡_};
-ghost use lib.Dec.{ltb};
+ghost use lib.Dec.{eqb, ltb};
 ghost use Rattle.entries.specs.View.{Fitting};
-ghost use Rattle.inner.specs.Performs.{CommitsAs, Performs, callOf, stayAs};
+ghost use Rattle.inner.specs.Performs.{CommitsAs, Performs, ReleasesAs, callOf, stayAs, unmovedAs};
 ghost use Rattle.inner.specs.Place.{Located, hasOwn};
-ghost use Rattle.model.specs.Calls.{clearCutCall, commitCutCall, logCall, readPlace, showPlace, statusCall};
-ghost use Rattle.model.specs.Refusals.{noSheet};
+ghost use Rattle.model.specs.Calls.{clearCutCall, commitCutCall, logCall, panelPlace, readPlace, releaseCall, showPlace, statusCall};
+ghost use Rattle.model.specs.Refusals.{noSeat, noSheet};
 ghost use Rattle.model.specs.Types.{answerOf, createdAs};
 ghost use Rattle.store.specs.Opened.{openOf};
 ghost use Rattle.store.specs.declared.Opened.the-variants.{Open};
@@ -21,7 +21,7 @@ use model::State;
 use store::Header;
 
 // A call with its numbers: the sheet (add and edit take bytes beside it), from and to, stamp and mask, mask and revision, revision and sheet; of a cut call also the number of
-// block writes that it stops after.
+// block writes that it stops after; of a release revision, seat and stamp.
 pub enum Call {
     Add(u32),
     Edit(u32),
@@ -38,9 +38,11 @@ pub enum Call {
     Clear,
     CommitCut(u32, u32, u32),
     ClearCut(u32),
+    Release(u32, u32, u32),
+    Panel(u32, u32),
 }
 
-// What a call answers; read and show, where the bytes stand.
+// What a call answers; read, a panel's reading and show, where the bytes stand.
 pub enum Reply {
     Said(Answer),
     At(Place),
@@ -72,6 +74,18 @@ pub fn place_in(store: &[u8], h: Header, revision: u32, sheet: u32) -> Place
         return Place::Refused(Refusal::Missing);
     }
     Place::InStore(search::span_at(store, found.block), found.revision)
+}
+
+// The companion of a panel's reading, on a store that is open: what read's gives at the greatest released revision up to this one. Tree 0, where there is none, has no sheet.
+pub fn panel_in(store: &[u8], h: Header, revision: u32, sheet: u32) -> Place
+    requires { ⌜ openOf (now store) ≡ Open h ⌝ }
+    ensures { λ r. ⌜ Located (now (store .entry)) [] (panelPlace (now (store .entry)) revision sheet) r ⌝ }
+{
+    if h.last < revision as usize {
+        return Place::Refused(Refusal::Range);
+    }
+    let released = marks::greatest(store, h.used, revision);
+    place_in(store, h, released, sheet)
 }
 
 // Log on a store that is open.
@@ -166,6 +180,61 @@ fn commit_in(store: &mut [u8], copy: &mut [u8], v: View, stamp: u32, mask: u32, 
     filing::commit(store, copy, v, stamp, mask, n)
 }
 
+// ---- a release
+
+// Line 7 of a release: a seat outside 1 to 4, a revision above the last, or revision 0.
+fn unreleasable(h: Header, revision: u32, seat: u32) -> bool
+    ensures { λ r. ⌜ r ≡ (noSeat seat || (eqb revision 0 || ltb (h .last) revision)) ⌝ }
+{
+    if seat < 1 {
+        return true;
+    }
+    if 4 < seat {
+        return true;
+    }
+    if h.last < revision as usize {
+        return true;
+    }
+    revision == 0
+}
+
+// Refused: the store's numbers stay.
+fn unmoved(h: Header, k: Refusal) -> Filed
+    ensures { λ r. ⌜ r ≡ unmovedAs h k ⌝ }
+{
+    Filed {
+        answer: Answer::Refused(k),
+        used: h.used,
+        last: h.last,
+    }
+}
+
+// A release on a store that is open: its one block is written in the place of the first zero block.
+pub fn release_in(store: &mut [u8], h: Header, revision: u32, seat: u32, stamp: u32) -> Filed
+    requires { ⌜ openOf (now store) ≡ Open h ⌝ }
+    ensures { λ r. ⌜ ReleasesAs (releaseCall (now (store .entry)) revision seat stamp) r (now (store .exit)) ⌝ }
+{
+    if tails::has(store, h.used) {
+        return unmoved(h, Refusal::Tail);
+    }
+    if unreleasable(h, revision, seat) {
+        return unmoved(h, Refusal::Range);
+    }
+    if marks::is_released(store, h.used, revision) {
+        return unmoved(h, Refusal::Released);
+    }
+    if store.len() / 512 <= h.used {
+        return unmoved(h, Refusal::NoRoom);
+    }
+    writer::put_release(store, h.used, revision as usize, seat as u8, stamp);
+    let used = h.used + 1;
+    Filed {
+        answer: Answer::Done,
+        used,
+        last: h.last,
+    }
+}
+
 // ---- any call
 
 // What a call answered, and the store's blocks in use and last revision then.
@@ -253,6 +322,27 @@ pub fn perform(store: &mut [u8], copy: &mut [u8], v: View, call: Call, bytes: &[
                 used: v.used,
             };
             stay(v, Reply::Said(clear_in(store, h, n as usize)))
+        }
+        Call::Release(revision, seat, stamp) => {
+            let h = Header {
+                last: v.last,
+                used: v.used,
+            };
+            let filed = release_in(store, h, revision, seat, stamp);
+            let answer = filed.answer;
+            let reply = Reply::Said(answer);
+            Performed {
+                reply,
+                used: filed.used,
+                last: filed.last,
+            }
+        }
+        Call::Panel(revision, sheet) => {
+            let h = Header {
+                last: v.last,
+                used: v.used,
+            };
+            stay(v, Reply::At(panel_in(store, h, revision, sheet)))
         }
     }
 }

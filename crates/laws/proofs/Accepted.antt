@@ -80,6 +80,7 @@ module _ (store copy : Bytes) (A : Accepted store copy) where
         many = q .2;
         blocks = refl;
         stored = taken-tailed store (A .storeTaken);
+        marked = refl;
         copied = holds-mine;
       }
 
@@ -94,7 +95,7 @@ module _ (store copy : Bytes) (A : Accepted store copy) where
         sound = r .0;
         fits = fits-each (storeHistory store) (entriesOf copy) (not-false (fitsStore (storeHistory store) (entriesOf copy)) (copy-lines .1 .1 .0)) (holds-mine .2);
         wide = holds-mine .0;
-        used = sym (r .1);
+        used = r .1;
         room = omega (arith, l, B .count);
       }
 
@@ -147,10 +148,11 @@ others-accepted store copy other A B c ty =
       used = sideBy o d c .1 .used;
       tail = sideBy o d c .1 .tail;
       history = sideBy o d c .1 .history;
+      marks = sideBy o d c .1 .marks;
       entries = entriesOf other;
     } in
     let V′ : Seen (blockCount store) (call store copy c .store) other x =
-    record { few = r .1 .few; many = r .1 .many; blocks = r .1 .blocks; stored = r .1 .stored; copied = holds-mine store other B } in
+    record { few = r .1 .few; many = r .1 .many; blocks = r .1 .blocks; stored = r .1 .stored; marked = r .1 .marked; copied = holds-mine store other B } in
     let K′ : KeptSide x = record {
       sound = k .sound;
       fits = λ i. fits-by store copy A o c refl i (getD (entriesOf other) i empty) (accepted-kept store other B .fits i);

@@ -1,35 +1,35 @@
--- Every accepted store holds a sound history and as many used blocks as that history takes; so what holds of the machine's states holds of every pair of buffers that
+-- Every accepted store holds a sound history, and more used blocks than commits; so what holds of the machine's states holds of every pair of buffers that
 -- no line from 1 to 6 refuses, whoever wrote them.
 -- Assumes nothing.
 use Prim.Native.Nat.{_+_, _<_, _^_, _≤_, suc, zero, ℕ}
 use mathlib.Core.Bool.{Bool, _&&_, cond, false, true}
 use mathlib.Core.List.{List, [], _++_, _∷_, append-assoc, append-nil, map}
 use mathlib.Core.Logic.{inl, inr}
-use mathlib.Core.Option.{Option, some}
-use mathlib.Core.Path.{_∙_, _≡_, ap, ap₂, refl, subst, sym}
+use mathlib.Core.Option.{some}
+use mathlib.Core.Path.{_∙_, _≡_, ap, refl, subst, sym}
 use native.Mathlib.Omega.{arith}
 use borrow.Author.Tests.{eq-eqb, leb-false, leb-true, ne-eqb}
 use lib.Dec.{T, eqb, eqb→eq, leb, lit≤}
 use lib.ListN.{List·getD-append, List·getD-eq-default, getD, length, length-append, replicate, set, take}
 use lib.Seq.{getD-append-seam, take-append-le, take-length}
-use Rattle.block.proofs.Says.{and-true, eq-or, says-false, says-same, says-true}
+use Rattle.block.proofs.Says.{and-true, eq-or}
 use Rattle.block.specs.Lists.{All, all}
-use Rattle.model.specs.Blocks.{Action, Block, FitsBlock, Line, adds, blank, bytesAt, changes, commit, content, copies, deletes, held, label}
-use Rattle.model.specs.History.{Bytes, Change, Commit, History, applied, isBytes, newest, nothing, present, sheet, tree, treeFrom, tree₀}
-use Rattle.model.specs.Invariant.{Made, Right, Short, Sound, usedBy}
+use Rattle.model.specs.Blocks.{Action, Block, FitsBlock, Line, adds, blank, bytesAt, changes, commit, content, copies, deletes, held, label, mark}
+use Rattle.model.specs.History.{Change, Commit, History, applied, newest, nothing, present, sheet, tree, treeFrom, tree₀}
+use Rattle.model.specs.Invariant.{Made, Right, Short, Sound}
 use Rattle.model.specs.Layout.{Laid, Lays, NoneTwice, Rule, RuleAs, Table, latest, means, meansAs, next, one-if, pointed, puts, user}
-use Rattle.model.specs.Machine.{blocksFor, contentOf, count}
-use Rattle.model.specs.Pass.{grown, isBlank, laid, noChanges, ok, okFrom, readAll, readFrom, stated}
+use Rattle.model.specs.Machine.{count}
+use Rattle.model.specs.Pass.{grown, isBlank, laid, noChanges, ok, okFrom, readAll, readFrom, stands, stated}
 use Rattle.model.specs.Rows.{total}
 use Rattle.model.specs.Store.{front}
 use Rattle.laws.proofs.Acceptance.{laid-so, lays-accepted, no-change, places}
 use Rattle.laws.proofs.All.{All-getD, All-map, All-snoc}
-use Rattle.laws.proofs.Append.{Below, grown-below, user-low, zero-below}
+use Rattle.laws.proofs.Append.{Below, grown-below, wider, zero-below}
 use Rattle.laws.proofs.Bridge.{has, lacks}
 use Rattle.laws.proofs.Puts.{length-puts, puts-other}
 use Rattle.laws.proofs.Rows.{set-any}
 use Rattle.laws.proofs.Tables.{latest-snoc, length-next, next-tree, slot}
-use Rattle.laws.proofs.Trees.{sound-grown, treeFrom-append, used-grown}
+use Rattle.laws.proofs.Trees.{sound-grown, treeFrom-append}
 
 -- ---- sums over the rows of a commit
 
@@ -77,14 +77,6 @@ hit-out : (a n b : ℕ) → b < a → hit a n b ≡ 0
 hit-out a zero b h = refl
 hit-out a (suc n) b h = rw (ne-eqb b a (λ e. omega arith)) (omega (arith, hit-out (suc a) n b (omega arith)))
 
-hit-in : (a n b : ℕ) → a ≤ b → b < a + n → hit a n b ≡ 1
-hit-in a zero b h g = absurd (omega arith)
-hit-in a (suc n) b h g =
-    elim (eq-or b a) [
-      | inl e ↦ rw (eq-eqb b a e) (omega (arith, hit-out (suc a) n b (omega arith)))
-      | inr ne ↦ rw (ne-eqb b a ne) (omega (arith, hit-in (suc a) n b (omega arith) (omega arith)))
-    ]
-
 -- how often the n blocks from a on are pointed to
 abbrev pointers : ℕ → ℕ → List Line → ℕ
 pointers a zero ls = 0
@@ -101,10 +93,6 @@ one-cond false n = omega arith
 pointers-cons : (a n : ℕ) (l : Line) (ls : List Line) → pointers a n (l ∷ ls) ≡ hit a n (l .block) + pointers a n ls
 pointers-cons a zero l ls = refl
 pointers-cons a (suc n) l ls = omega (arith, one-cond (eqb (l .block) a) (pointed a ls), pointers-cons (suc a) n l ls)
-
-pointers-hits : (a n : ℕ) (ls : List Line) → total (λ (l : Line). hit a n (l .block)) ls ≡ pointers a n ls
-pointers-hits a n [] = sym (pointers-none a n)
-pointers-hits a n (l ∷ ls) = omega (arith, pointers-hits a n ls, pointers-cons a n l ls)
 
 pointers-each : (a n : ℕ) (ls : List Line) → ((p : ℕ) → a ≤ p → p < a + n → pointed p ls ≡ 1) → pointers a n ls ≡ n
 pointers-each a zero ls f = refl
@@ -133,6 +121,7 @@ short-held : (b : Block) → FitsBlock b → Short (held b)
 short-held label f = record { size = lit≤ tt; bytes = tt }
 short-held (content r x) f = record { size = f .1; bytes = f .2 }
 short-held (commit r s t ls) f = record { size = lit≤ tt; bytes = tt }
+short-held (mark m) f = record { size = lit≤ tt; bytes = tt }
 short-held blank f = record { size = lit≤ tt; bytes = tt }
 
 -- the tables so far are the trees of the commits so far
@@ -178,29 +167,6 @@ module _ (look : ℕ → List ℕ) (short : (p : ℕ) → Short (look p)) (at k 
           short (l .block),
         )
 
-    -- a line takes a content block of its own exactly where the machine counts one
-    content-line : (l : Line) → Rule look at k tables l → contentOf g (means look l) ≡ hit at k (l .block)
-    unfolding means
-    content-line l r = go (l .action) (r .1)
-      where
-        go : (a : Action) → RuleAs look at k tables a l → contentOf g (meansAs look a l) ≡ hit at k (l .block)
-        go adds q = sym (hit-in at k (l .block) (q .1 .0) (q .1 .1))
-        go changes q = sym (hit-in at k (l .block) (q .1 .0) (q .1 .1))
-        go deletes q = sym (hit-out at k (l .block) (omega (arith, q .1)))
-        go copies q =
-            let u : ℕ = user look at k tables (l .revision) (l .source) in
-            ap (λ (o : Option Bytes). cond (isBytes (look (l .block)) o) 0 1) (source (l .revision) (l .source) (q .1 .1) (q .2))
-            ∙ elim (q .3) [
-              | inl o ↦ ap (λ (t : Bool). cond t 0 1) (says-false (says-same (look (l .block)) (look u)) (o .1)) ∙ sym (hit-in at k (l .block) (o .0 .0) (o .0 .1))
-              | inr e ↦
-                  ap (λ (t : Bool). cond t 0 1) (says-true (says-same (look (l .block)) (look u)) (ap look e))
-                  ∙ sym (hit-out at k (l .block) (omega (arith, e, user-low look at k tables low below (l .revision) (l .source))))
-            ]
-
-    content-lines : (ls : List Line) → All (Rule look at k tables) ls → total (λ (l : Line). contentOf g (means look l)) ls ≡ total (λ (l : Line). hit at k (l .block)) ls
-    content-lines [] a = refl
-    content-lines (l ∷ ls) a = ap₂ (λ (x y : ℕ). x + y) (content-line l (a .0)) (content-lines ls (a .1))
-
     right-rows : (ls : List Line) (i : ℕ) → All (Rule look at k tables) ls → Right g i (getD (puts (means look) ls noChanges) i nothing)
     right-rows [] i a = subst (Right g i) (sym (no-change i)) tt
     right-rows (l ∷ ls) i a =
@@ -229,11 +195,6 @@ module _ (look : ℕ → List ℕ) (short : (p : ℕ) → Short (look p)) (at k 
         some = omega (arith, changes-count, block .some-line);
         right = λ i. right-rows ls i (block .rules);
       }
-
-      pub taken-block : blocksFor g (puts (means look) ls noChanges) ≡ k + 1
-      taken-block =
-          ap (λ (n : ℕ). n + 1) (total-puts (contentOf g) look ls refl (block .none-twice) inside
-          ∙ content-lines ls (block .rules) ∙ pointers-hits at k ls ∙ pointers-each at k ls (block .one-each))
 
       wide-latest : (ts : List Table) (n : ℕ) → length ts ≡ suc n → All (λ (t : Table). length t ≡ 32) ts → length (latest ts) ≡ 32
       wide-latest [] n e a = absurd (omega arith)
@@ -272,16 +233,9 @@ module _ (look : ℕ → List ℕ) (short : (p : ℕ) → Short (look p)) (at k 
 -- ---- the whole store
 
 module _ (look : ℕ → List ℕ) (short : (p : ℕ) → Short (look p)) where
-  used-next : (at k : ℕ) (tables : List Table) (g : History) (low : 1 ≤ at) (N : Known look tables g) (below : All (Below at) tables) → usedBy g ≡ at
-      → (seat stamp : ℕ) (ls : List Line) → T (laid look at k tables seat ls) → usedBy (g ++ (stated look seat stamp ls ∷ [])) ≡ suc (at + k)
-  unfolding stated
-  used-next at k tables g low N below u seat stamp ls t =
-      let w : blocksFor g (puts (means look) ls noChanges) ≡ k + 1 = taken-block look short at k tables g low N below seat stamp ls t in
-      used-grown g (stated look seat stamp ls) ∙ (let z : usedBy g + blocksFor g (puts (means look) ls noChanges) ≡ suc (at + k) = omega (arith, u, w) in z)
-
   -- from the commits g on, whose blocks end before block `at`, past k content blocks
-  accept-from : (at k : ℕ) (tables : List Table) (g : History) (bs : List Block) → 1 ≤ at → Known look tables g → All (Below at) tables → usedBy g ≡ at → Sound g
-      → All FitsBlock bs → T (okFrom look at k tables bs) → Sound (g ++ readFrom look bs) × (usedBy (g ++ readFrom look bs) ≡ at + k + length (front bs))
+  accept-from : (at k : ℕ) (tables : List Table) (g : History) (bs : List Block) → 1 ≤ at → Known look tables g → All (Below at) tables → length g < at → Sound g
+      → All FitsBlock bs → T (okFrom look at k tables bs) → Sound (g ++ readFrom look bs) × (length (g ++ readFrom look bs) < at + k + length (front bs))
   unfolding okFrom readFrom
   accept-from at k tables g [] low N below u s f t =
       let e : g ++ [] ≡ g = append-nil g in
@@ -291,17 +245,21 @@ module _ (look : ℕ → List ℕ) (short : (p : ℕ) → Short (look p)) where
   accept-from at k tables g (content r b ∷ bs) low N below u s f t =
       let p = and-true (eqb r (length tables)) (okFrom look at (suc k) tables bs) t in
       let q = accept-from at (suc k) tables g bs low N below u s (f .1) (p .1) in
-      (q .0, q .1 ∙ (let e : at + suc k + length (front bs) ≡ at + k + suc (length (front bs)) = omega arith in e))
+      (q .0, omega (arith, q .1))
   accept-from at k tables g (commit r seat stamp ls ∷ bs) low N below u s f t =
       let p = and-true (eqb r (length tables)) (laid look at k tables seat ls && okFrom look (suc (at + k)) 0 (grown tables ls) bs) t in
       let o = and-true (laid look at k tables seat ls) (okFrom look (suc (at + k)) 0 (grown tables ls) bs) (p .1) in
       let c : Commit = stated look seat stamp ls in
       let m : Made g c = made-block look short at k tables g low N below seat stamp ls (o .0) (f .0 .2) in
-      let n : usedBy (g ++ (c ∷ [])) ≡ suc (at + k) = used-next at k tables g low N below u seat stamp ls (o .0) in
+      let n : length (g ++ (c ∷ [])) < suc (at + k) = omega (arith, length-append g (c ∷ [])) in
       let q = accept-from (suc (at + k)) 0 (grown tables ls) (g ++ (c ∷ [])) bs (omega arith) (known-next look short at k tables g low N below seat stamp ls (o .0))
       (grown-below look look (at + k) (λ p h. refl) at k tables low (omega arith) below seat ls (o .0)) n (sound-grown g c s m) (f .1) (o .1) in
       let e : (g ++ (c ∷ [])) ++ readFrom look bs ≡ g ++ (c ∷ readFrom look bs) = append-assoc g (c ∷ []) (readFrom look bs) in
-      (subst Sound e (q .0), ap usedBy (sym e) ∙ q .1 ∙ (let w : suc (at + k) + 0 + length (front bs) ≡ at + k + suc (length (front bs)) = omega arith in w))
+      (subst Sound e (q .0), omega (arith, q .1, ap length e))
+  accept-from at k tables g (mark m ∷ bs) low N below u s f t =
+      let p = and-true (eqb k 0) (stands tables m && okFrom look (suc at) 0 tables bs) t in
+      let q = accept-from (suc at) 0 tables g bs (omega arith) N (wider at tables below) (omega arith) s (f .1) (and-true (stands tables m) (okFrom look (suc at) 0 tables bs) (p .1) .1) in
+      (q .0, omega (arith, q .1))
   accept-from at k tables g (blank ∷ bs) low N below u s f t =
       let e : g ++ [] ≡ g = append-nil g in
       let z : k ≡ 0 = eqb→eq k 0 (and-true (eqb k 0) (all isBlank bs) t .0) in
@@ -319,17 +277,18 @@ known-start look = record { count = refl; each = each; wide = (refl, tt); newest
     each zero h = refl
     each (suc v) h = absurd (omega arith)
 
--- THE STATEMENT: the history in an accepted store is sound, and takes the blocks before the all-zero ones
-pub accepted-sound : (bs : List Block) (h : History) → All FitsBlock bs → Lays bs h → Sound h × (usedBy h ≡ length (front bs))
+-- THE STATEMENT: the history in an accepted store is sound, and shorter than the used blocks are many
+pub accepted-sound : (bs : List Block) (h : History) → All FitsBlock bs → Lays bs h → Sound h × (length h < length (front bs))
 unfolding ok readAll
 accepted-sound bs h f m = go bs f (lays-accepted bs h m)
   where
-    go : (bs : List Block) → All FitsBlock bs → T (ok bs) × (readAll bs ≡ h) → Sound h × (usedBy h ≡ length (front bs))
+    go : (bs : List Block) → All FitsBlock bs → T (ok bs) × (readAll bs ≡ h) → Sound h × (length h < length (front bs))
     go [] f a = absurd (a .0)
     go (label ∷ bs) f a =
         let look = bytesAt (label ∷ bs) in
-        let r = accept-from look (short-at (label ∷ bs) f) 1 0 (replicate 32 0 ∷ []) [] bs (lit≤ tt) (known-start look) (zero-below 32, tt) refl (λ r lt. absurd (omega arith)) (f .1) (a .0) in
-        (subst Sound (a .1) (r .0), ap usedBy (sym (a .1)) ∙ r .1 ∙ (let w : 1 + 0 + length (front bs) ≡ suc (length (front bs)) = omega arith in w))
+        let r = accept-from look (short-at (label ∷ bs) f) 1 0 (replicate 32 0 ∷ []) [] bs (lit≤ tt) (known-start look) (zero-below 32, tt) (omega arith) (λ r lt. absurd (omega arith)) (f .1) (a .0) in
+        (subst Sound (a .1) (r .0), omega (arith, r .1, ap length (a .1)))
     go (content r b ∷ bs) f a = absurd (a .0)
     go (commit r seat stamp ls ∷ bs) f a = absurd (a .0)
+    go (mark m ∷ bs) f a = absurd (a .0)
     go (blank ∷ bs) f a = absurd (a .0)

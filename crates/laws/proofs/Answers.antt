@@ -10,13 +10,13 @@ use lib.Dec.{leb}
 use lib.ListN.{getD, length}
 use Rattle.model.specs.Entry.{Entry, added, copied, deleted, empty, modified, normal, ownBytes, pending}
 use Rattle.model.specs.History.{Bytes, History, change, last, namer, names, newest, nothing, present, sheet}
-use Rattle.model.specs.Machine.{Add, Answer, Call, Clears, ClearsCut, Commits, CommitsCut, Copy, Delete, Edit, Log, Move, Read, Revert, Show, Side, State, Status, Update, agreed, asBytes, asIn, blocksFor, chosen, commitChanges, doing, entry, fresh, orElse, refusal, refused, sameNamer, shown, shownNamer, sideOf, updated, updatedTo}
+use Rattle.model.specs.Log.{panelRevision}
+use Rattle.model.specs.Machine.{Add, Answer, Call, Clears, ClearsCut, Commits, CommitsCut, Copy, Delete, Edit, Log, Move, Panel, Read, Release, Revert, Show, Side, State, Status, Update, agreed, asBytes, asIn, blocksFor, chosen, commitChanges, doing, entry, fresh, orElse, panelSheet, refusal, refused, sameNamer, shown, shownNamer, sideOf, updated, updatedTo}
 use Rattle.model.specs.Refusals.{conditions, firstOf, noSheet, tooLate}
 use Rattle.model.specs.Run.{Turn, accepted, ownConditions, run, sideBy, sideStep, step, stepBy}
 use Rattle.laws.proofs.Conditions.{clear, own-none}
-use Rattle.laws.proofs.Rows.{cond-any}
+use Rattle.laws.proofs.Rows.{cond-any, rows-at}
 use Rattle.laws.proofs.Lasting.{found}
-use Rattle.laws.proofs.Rows.{rows-at}
 
 shows : (n : ℕ) (o : Option Bytes) → not (present o) ≡ false → refusal (asBytes n o) ≡ none
 shows n none e = cc
@@ -40,6 +40,8 @@ done-by d Clears e = refl
 done-by d (CommitsCut stamp mask n) e =
     cond-any (λ (x : Answer × Side). refusal (x .0) ≡ none) (leb (blocksFor (d .history) (commitChanges (d .history) mask (d .entries))) n) (λ t. refl) (λ t. refl)
 done-by d (ClearsCut n) e = cond-any (λ (x : Answer × Side). refusal (x .0) ≡ none) (leb (d .tail) n) (λ t. refl) (λ t. refl)
+done-by d (Release R seat stamp) e = refl
+done-by d (Panel R i) e = shows (namer (d .history) (panelRevision (d .marks) R) i) (panelSheet d R i) (clear (conditions d (Panel R i)) e .1 .0)
 
 number-by : (o : Option ℕ) (s : State) (seat : ℕ) (c : Call) → firstOf (ownConditions (sideOf s seat) c) ≡ o → refusal (stepBy o s seat c .0) ≡ o
 number-by (some n) s seat c e = refl
@@ -68,6 +70,12 @@ pub read-side : (t : Bool) (d : Side) (R i n : ℕ) (o : Option Bytes) → namer
 read-side true d R i n o m e z = rw z
 read-side false d R i n none m e z = rw (z, e)
 read-side false d R i n (some x) m e z = rw (z, e, e, m)
+
+-- what a panel finds: at the greatest released revision up to R
+pub panel-side : (d : Side) (R i : ℕ) (o : Option Bytes) → panelSheet d R i ≡ o → (noSheet i || tooLate (d .history) R) ≡ false
+    → sideStep d (Panel R i) .0 ≡ asBytes (namer (d .history) (panelRevision (d .marks) R) i) o
+panel-side d R i none e z = rw (z, e)
+panel-side d R i (some x) e z = rw (z, e, e)
 
 read-by : (o : Option ℕ) (s : State) (k R i : ℕ) → stepBy o s k (Read R i) .0 ≡ sideBy o (sideOf s k) (Read R i) .0
 read-by (some n) s k R i = refl

@@ -10,11 +10,12 @@ use lib.Dec.{T, eqb, eqb→eq, lit<, lit≤}
 use lib.ListN.{List·getD-append, getD, length, replicate}
 use Rattle.block.proofs.Says.{and-true, true-and}
 use Rattle.block.specs.Lists.{All, all}
-use Rattle.model.specs.Blocks.{Action, Block, Line, adds, blank, bytesAt, changes, commit, content, copies, deletes, held, label}
-use Rattle.model.specs.History.{History, add, change, copy}
-use Rattle.model.specs.Layout.{Lays, LaysFrom, Rule, RuleAs, Table, latest, means, meansAs, next, puts, user}
-use Rattle.model.specs.Pass.{grown, isBlank, laid, noChanges, ok, okFrom, readAll, readFrom, stated, tablesAfter, tablesOf}
-use Rattle.laws.proofs.Acceptance.{accepted-lays, complete, lays-accepted, says-laid}
+use Rattle.model.specs.Blocks.{Action, Block, Line, adds, blank, bytesAt, changes, commit, content, copies, deletes, held, label, mark}
+use Rattle.model.specs.History.{add, change, copy}
+use Rattle.model.specs.Layout.{LaysFrom, LaysLog, Rule, RuleAs, Table, latest, means, meansAs, next, puts, user}
+use Rattle.model.specs.Log.{Log}
+use Rattle.model.specs.Pass.{grown, isBlank, laid, logAll, logFrom, noChanges, ok, okFrom, stands, stated, tablesAfter, tablesOf}
+use Rattle.laws.proofs.Acceptance.{accepted-logs, complete, logs-accepted, says-laid}
 use Rattle.laws.proofs.All.{All-getD, All-map, All-set, All-snoc}
 
 pub All-puts : {A : Type 0} (P : A → Type 0) (f : Line → A) (ls : List Line) (base : List A) → All (λ (l : Line). P (f l)) ls → All P base → All P (puts f ls base)
@@ -29,6 +30,10 @@ latest-below : (n : ℕ) (ts : List Table) → All (Below n) ts → Below n (lat
 latest-below n [] a = tt
 latest-below n (t ∷ []) a = a .0
 latest-below n (t ∷ (u ∷ ts)) a = latest-below n (u ∷ ts) (a .1)
+
+-- one block more
+pub wider : (n : ℕ) (ts : List Table) → All (Below n) ts → All (Below (suc n)) ts
+wider n ts a = All-map (Below n) (Below (suc n)) ts (λ t b. All-map (λ (p : ℕ). p < n) (λ (p : ℕ). p < suc n) t (λ p h. omega arith) b) a
 
 -- so is the block that a source uses
 pub user-low : (look : ℕ → List ℕ) (at k : ℕ) (tables : List Table) → 1 ≤ at → All (Below at) tables → (v s : ℕ) → user look at k tables v s < at
@@ -116,19 +121,19 @@ module _ (look look′ : ℕ → List ℕ) (n : ℕ) (agree : (p : ℕ) → p < 
         λ i. record { seat = seat; stamp = stamp; changes = e i }
 
   stop : (at k : ℕ) (tables : List Table) (bl : List Block) → All (λ (b : Block). b ≡ blank) bl → T (okFrom look at k tables bl)
-      → (k ≡ 0) × (readFrom look bl ≡ [])
-  unfolding okFrom readFrom
+      → (k ≡ 0) × (logFrom look bl ≡ [])
+  unfolding okFrom logFrom
   stop at k tables [] z t = (eqb→eq k 0 t, refl)
   stop at k tables (b ∷ bs) z t =
       let t′ : T (okFrom look at k tables (blank ∷ bs)) = subst (λ (x : Block). T (okFrom look at k tables (x ∷ bs))) (z .0) t in
-      (eqb→eq k 0 (and-true (eqb k 0) (all isBlank bs) t′ .0), ap (λ (x : Block). readFrom look (x ∷ bs)) (z .0))
+      (eqb→eq k 0 (and-true (eqb k 0) (all isBlank bs) t′ .0), ap (λ (x : Block). logFrom look (x ∷ bs)) (z .0))
 
   -- a run of blocks before blank ones is as good before other blocks, and reads the same
   pub run : (at k : ℕ) (tables : List Table) (front bl new : List Block) → 1 ≤ at → at + k + length front ≤ n → All (Below at) tables
       → T (all (λ b. not (isBlank b)) front) → All (λ (b : Block). b ≡ blank) bl
       → T (okFrom look at k tables (front ++ bl)) → T (okFrom look′ (at + k + length front) 0 (tablesAfter tables front) new)
-      → T (okFrom look′ at k tables (front ++ new)) × (readFrom look′ (front ++ new) ≡ readFrom look (front ++ bl) ++ readFrom look′ new)
-  unfolding okFrom readFrom tablesAfter
+      → T (okFrom look′ at k tables (front ++ new)) × (logFrom look′ (front ++ new) ≡ logFrom look (front ++ bl) ++ logFrom look′ new)
+  unfolding okFrom logFrom tablesAfter
   run at k tables [] bl new low top below nb z t u =
       let q = stop at k tables bl z t in
       let e : at + k + 0 ≡ at = omega (arith, q .0) in
@@ -149,6 +154,16 @@ module _ (look look′ : ℕ → List ℕ) (n : ℕ) (agree : (p : ℕ) → p < 
             (move-laid at k tables low (omega arith) below seat ls (q .0)) (ih .0)),
         cc (same-stated at k tables low (omega arith) below seat stamp ls (q .0), ih .1),
       )
+  run at k tables (mark m ∷ front) bl new low top below nb z t u =
+      let p = and-true (eqb k 0) (stands tables m && okFrom look (suc at) 0 tables (front ++ bl)) t in
+      let q = and-true (stands tables m) (okFrom look (suc at) 0 tables (front ++ bl)) (p .1) in
+      let k0 : k ≡ 0 = eqb→eq k 0 (p .0) in
+      let e : at + k + suc (length front) ≡ suc at + 0 + length front = omega arith in
+      let ih = run (suc at) 0 tables front bl new (omega arith) (omega arith) (wider at tables below) nb z (q .1) (rw e at u) in (
+        true-and (eqb k 0) (stands tables m && okFrom look′ (suc at) 0 tables (front ++ new)) (p .0)
+            (true-and (stands tables m) (okFrom look′ (suc at) 0 tables (front ++ new)) (q .0) (ih .0)),
+        cc (ih .1),
+      )
   run at k tables (blank ∷ front) bl new low top below nb z t u = absurd nb
 
 pub zero-below : (m : ℕ) → Below 1 (replicate m 0)
@@ -159,20 +174,21 @@ pub unmoved : (front bl new : List Block) (p : ℕ) → p < length front → byt
 unfolding bytesAt
 unmoved front bl new p h = ap held (List·getD-append front bl blank p h ∙ sym (List·getD-append front new blank p h))
 
--- THE STATEMENT: blocks of further commits g, put in the place of the blank ones
-pub append : (front bl new : List Block) (h g : History) → T (all (λ b. not (isBlank b)) front) → All (λ (b : Block). b ≡ blank) bl → 1 ≤ length front
-    → Lays (front ++ bl) h → LaysFrom (bytesAt (front ++ new)) (length front) (tablesOf front) g new → Lays (front ++ new) (h ++ g)
-unfolding ok readAll tablesOf
+-- THE STATEMENT: blocks of further commits and marks g, put in the place of the blank ones
+pub append : (front bl new : List Block) (h g : Log) → T (all (λ b. not (isBlank b)) front) → All (λ (b : Block). b ≡ blank) bl → 1 ≤ length front
+    → LaysLog (front ++ bl) h → LaysFrom (bytesAt (front ++ new)) (length front) (tablesOf front) g new → LaysLog (front ++ new) (h ++ g)
+unfolding ok logAll tablesOf
 append [] bl new h g nb z some m w = absurd (omega arith)
 append (label ∷ front) bl new h g nb z some m w =
     let old = bytesAt (label ∷ (front ++ bl)) in
     let now = bytesAt (label ∷ (front ++ new)) in
-    let a = lays-accepted (label ∷ (front ++ bl)) h m in
+    let a = logs-accepted (label ∷ (front ++ bl)) h m in
     let c = complete now (suc (length front)) (tablesAfter (replicate 32 0 ∷ []) front) g new w in
     let e : suc (length front) ≡ 1 + 0 + length front = omega arith in
     let r = run old now (suc (length front)) (unmoved (label ∷ front) bl new) 1 0 (replicate 32 0 ∷ []) front bl new (lit≤ tt) (omega arith)
     (zero-below 32, tt) nb z (a .0) (rw e at (c .0)) in
-    subst (λ (x : History). Lays (label ∷ (front ++ new)) x) (cc (r .1, a .1, c .1)) (accepted-lays (label ∷ (front ++ new)) (r .0))
-append (content r b ∷ front) bl new h g nb z some m w = absurd (lays-accepted (content r b ∷ (front ++ bl)) h m .0)
-append (commit r seat stamp ls ∷ front) bl new h g nb z some m w = absurd (lays-accepted (commit r seat stamp ls ∷ (front ++ bl)) h m .0)
+    subst (λ (x : Log). LaysLog (label ∷ (front ++ new)) x) (cc (r .1, a .1, c .1)) (accepted-logs (label ∷ (front ++ new)) (r .0))
+append (content r b ∷ front) bl new h g nb z some m w = absurd (logs-accepted (content r b ∷ (front ++ bl)) h m .0)
+append (commit r seat stamp ls ∷ front) bl new h g nb z some m w = absurd (logs-accepted (commit r seat stamp ls ∷ (front ++ bl)) h m .0)
+append (mark q ∷ front) bl new h g nb z some m w = absurd (logs-accepted (mark q ∷ (front ++ bl)) h m .0)
 append (blank ∷ front) bl new h g nb z some m w = absurd nb

@@ -8,7 +8,8 @@ use lib.Dec.{lit≤, ltb}
 use lib.ListN.{length}
 use lib.Seq.{take-append-seam}
 use Rattle.block.proofs.Says.{Says, says, says-all, says-and, says-and3, says-and4, says-le, says-lt}
-use Rattle.model.specs.Blocks.{Action, Block, FitsBlock, FitsLine, Line, actionOf, adds, blank, changes, codeOf, commit, content, copies, deletes, fieldsOf, fitsBlock, fitsLine, label, linesOf, parse, parseLines}
+use Rattle.model.specs.Blocks.{Action, Block, FitsBlock, FitsLine, Line, actionOf, adds, blank, changes, codeOf, commit, content, copies, deletes, fieldsOf, fitsBlock, fitsLine, label, linesOf, mark, parse, parseLines}
+use Rattle.model.specs.Log.{released}
 use Rattle.laws.proofs.Codec.{Coded, four-back, two-back}
 
 action-back : (a : Action) → actionOf (codeOf a) ≡ a
@@ -46,12 +47,14 @@ says-fits (content r b) = says-and3 (says-lt r 65_536) (says-le (length b) 480) 
 says-fits (commit r seat stamp ls) =
     says-and4 (says-lt r 65_536) (says-lt seat 256) (says-lt stamp 4_294_967_296)
     (says-and (says-le (length ls) 32) (says-all fitsLine FitsLine (λ l. search says) ls))
+says-fits (mark (released r seat stamp)) = says-and3 (says-lt r 65_536) (says-lt seat 256) (says-lt stamp 4_294_967_296)
 says-fits blank = record { true-so = λ t. tt; so-true = λ t. tt }
 
 short : (r : Block) → FitsBlock r → length (fieldsOf r) ≤ 508
 short label f = lit≤ tt
 short (content r b) f = omega (arith, f .1)
 short (commit r seat stamp ls) f = omega (arith, f .3 .0, length-lines ls)
+short (mark (released r seat stamp)) f = lit≤ tt
 short blank f = lit≤ tt
 
 back : (r : Block) (z : List ℕ) → FitsBlock r → parse (fieldsOf r ++ z) ≡ r
@@ -59,6 +62,7 @@ unfolding parse
 back label z f = refl
 back (content r b) z f = rw (two-back r, two-back (length b)) (ap (content r) (take-append-seam b z))
 back (commit r seat stamp ls) z f = rw (two-back r, two-back (length ls), four-back stamp) (ap (commit r seat stamp) (lines-back ls z))
+back (mark (released r seat stamp)) z f = rw (two-back r, four-back stamp)
 back blank z f = refl
 
 pub block-coded : Coded fieldsOf parse fitsBlock FitsBlock

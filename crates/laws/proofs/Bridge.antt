@@ -11,7 +11,7 @@ use lib.Dec.{T}
 use lib.ListN.{getD, length, replicate}
 use Rattle.block.proofs.Says.{eq-or}
 use Rattle.block.specs.Lists.{All, all}
-use Rattle.model.specs.Blocks.{Block, blank, bytesAt, commit, content, label}
+use Rattle.model.specs.Blocks.{Block, blank, bytesAt, commit, content, label, mark}
 use Rattle.model.specs.History.{Change, History, Tree, add, change, copy, delete, nothing, tree}
 use Rattle.model.specs.Layout.{Lays, Table, latest, next}
 use Rattle.model.specs.Pass.{isBlank, ok, readAll, readFrom, tablesAfter, tablesOf}
@@ -29,6 +29,7 @@ ends-from pre t (commit r seat stamp ls ∷ bs) =
     ap (λ (x : Table). tablesAfter (pre ++ (t ∷ []) ++ (next ls x ∷ [])) bs) (latest-snoc pre t)
     ∙ ends-from (pre ++ (t ∷ [])) (next ls t) bs
     ∙ append-assoc pre (t ∷ []) (trail (next ls t) bs)
+ends-from pre t (mark m ∷ bs) = ends-from pre t bs
 ends-from pre t (blank ∷ bs) = refl
 
 pub tables-trail : (bs : List Block) → tablesOf bs ≡ trailOf bs
@@ -44,6 +45,7 @@ trail-blanks t [] (b ∷ bl) z = ap (λ (x : Block). trail t (x ∷ bl)) (z .0)
 trail-blanks t (label ∷ front) bl z = refl
 trail-blanks t (content r b ∷ front) bl z = trail-blanks t front bl z
 trail-blanks t (commit r seat stamp ls ∷ front) bl z = ap (λ (x : List Table). t ∷ x) (trail-blanks (next ls t) front bl z)
+trail-blanks t (mark m ∷ front) bl z = trail-blanks t front bl z
 trail-blanks t (blank ∷ front) bl z = refl
 
 -- a table that is a tree has 0 exactly where the tree lacks the sheet, and else a block with the sheet's bytes
@@ -69,6 +71,7 @@ length-trail look [] t = refl
 length-trail look (label ∷ bs) t = refl
 length-trail look (content r b ∷ bs) t = length-trail look bs t
 length-trail look (commit r seat stamp ls ∷ bs) t = ap suc (length-trail look bs (next ls t))
+length-trail look (mark m ∷ bs) t = length-trail look bs t
 length-trail look (blank ∷ bs) t = refl
 
 latest-at : (t : Table) (ts : List Table) → latest (t ∷ ts) ≡ getD (t ∷ ts) (length ts) []
@@ -103,6 +106,7 @@ trees-of (label ∷ front) bl h n z s m =
     }
 trees-of (content r b ∷ front) bl h n z s m = absurd (lays-accepted (content r b ∷ (front ++ bl)) h m .0)
 trees-of (commit r seat stamp ls ∷ front) bl h n z s m = absurd (lays-accepted (commit r seat stamp ls ∷ (front ++ bl)) h m .0)
+trees-of (mark q ∷ front) bl h n z s m = absurd (lays-accepted (mark q ∷ (front ++ bl)) h m .0)
 trees-of (blank ∷ front) bl h n z s m = absurd n
 
 -- THE RULES AS THE DOCUMENT HAS THEM: of a change to sheet i, after history h

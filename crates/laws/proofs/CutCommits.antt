@@ -19,12 +19,13 @@ use Rattle.block.specs.Write.{written}
 use Rattle.model.specs.Blocks.{Block, FitsBlock, blank, commit, content, fieldsOf}
 use Rattle.model.specs.Calls.{Out, bothConditions, call, changeBy, changeCall, commitCall, commitCutCall, commitWrites, out, refusalOf, sideIn, stoppedBy, storeConditions, writtenFrom}
 use Rattle.model.specs.Codec.{encode, joined}
-use Rattle.model.specs.Cut.{CutAnywhere, CutCommit, FoundCommit, FoundCommitting, Writes, Written, commitAfter, commitBlockAt, commitPlace, writeCount}
+use Rattle.model.specs.Cut.{CutCommit, FoundCommit, FoundCommitting, Writes, Written, commitAfter, commitBlockAt, commitPlace, writeCount}
 use Rattle.model.specs.History.{Bytes, Commit, History, last}
 use Rattle.model.specs.Invariant.{Made}
 use Rattle.model.specs.Machine.{Answer, Commits, CommitsCut, Side, blocksFor, doing, newCommit, refused, stopped}
-use Rattle.model.specs.Pass.{tablesOf}
+use Rattle.model.specs.Pass.{logAll, tablesOf}
 use Rattle.model.specs.Refusals.{Clear, conditions, firstOf, tailConditions}
+use Rattle.model.specs.Log.{marks}
 use Rattle.model.specs.Run.{ownConditions, sideBy, sideStep}
 use Rattle.model.specs.Shows.{Accepted, Seen}
 use Rattle.model.specs.Store.{bareOf, blanks, blockCount, blocksOf, front, storeBlocks, storeHistory, usedOf}
@@ -34,21 +35,20 @@ use Rattle.laws.proofs.Accepted.{accepted-call, accepted-kept, accepted
 use Rattle.laws.proofs.All.{all-right}
 use Rattle.laws.proofs.Codec.{length-encode}
 use Rattle.laws.proofs.Conditions.{clear, clear-first, none-holds, sized-so}
-use Rattle.laws.proofs.Cuts.{cut-clearing, keeps, label-used, restored, same-seats}
+use Rattle.laws.proofs.Cuts.{label-used, restored, same-seats}
 use Rattle.laws.proofs.Cutting.{block-written, content-count, cut-bare, cut-junk, cut-stored, few-contents, junk-bare, next, write-count}
 use Rattle.laws.proofs.Invariant.{Committable, KeptSide, committable, made-commit}
-use Rattle.laws.proofs.Steps.{count-is, part-is, stored-now, writes-are}
-use Rattle.laws.proofs.Store.{bare-held, clear-held, history-held, stored-tailed, tailed-none}
+use Rattle.laws.proofs.Steps.{count-is, none-there, part-is, stored-now, writes-are}
+use Rattle.laws.proofs.Store.{bare-held, clear-held, history-held, log-held, log-stored, stored-tailed, tailed-none}
 use Rattle.laws.proofs.Parts.{joined-append}
 use Rattle.laws.proofs.Tailing.{filled-tail}
 use Rattle.laws.proofs.Tails.{seals, zero-block}
-use Rattle.laws.proofs.Trees.{used-low}
 use Rattle.laws.proofs.Untailing.{filled-zero}
 use Rattle.laws.proofs.WorkCopy.{length-joined}
 use Rattle.laws.proofs.Writing.{Blocks, front-blanks, holds-blocks, written-fits}
 
 -- block p of bytes in which it was put
-block-of : (l : List ℕ) (p : ℕ) (b : List ℕ) → length b ≡ 512 → 512 * p ≤ length l → blockAt (withBlock l p b) p ≡ b
+pub block-of : (l : List ℕ) (p : ℕ) (b : List ℕ) → length b ≡ 512 → 512 * p ≤ length l → blockAt (withBlock l p b) p ≡ b
 block-of l p b n g =
     let a : length (take (512 * p) l) ≡ 512 * p = length-take-le (512 * p) l g in
     let e : 512 * p ≡ length (take (512 * p) l) + 0 = omega arith in
@@ -79,8 +79,8 @@ module _ (store : Bytes) (u N : ℕ) (ws : List Block) (size : length store ≡ 
   step-one : (n : ℕ) → n < length ws → u + n < N → wrote (suc n) ≡ withBlock (wrote n) (u + n) (blockAt (wrote (suc n)) (u + n))
   step-one n g r = step-put n g r ∙ ap (withBlock (wrote n) (u + n)) (sym (step-block n g r))
 
-longer : (h : History) (c : Commit) → h ≡ h ++ (c ∷ []) → ⊥
-longer h c e = omega (arith, ap length e, length-append h (c ∷ []))
+pub longer : {A : Type 0} (l : List A) (x : A) → l ≡ l ++ (x ∷ []) → ⊥
+longer l x e = omega (arith, ap length e, length-append l (x ∷ []))
 
 module _ (store copy : Bytes) (stamp mask : ℕ) (ty : stamp < 2 ^ 32) (C : Clear (bothConditions store copy (Commits stamp mask))) where
   abbrev d : Side
@@ -123,7 +123,7 @@ module _ (store copy : Bytes) (stamp mask : ℕ) (ty : stamp < 2 ^ 32) (C : Clea
   sized = sized-so store (clear (storeConditions store) (A .storeTaken) .0)
 
   S : Stored N store h u
-  S = stored-now N store copy d E K lo hi stamp mask 0 ty own
+  S = stored-now N store copy d E K lo hi (none-there N store copy d E K lo hi stamp mask 0 ty own)
 
   abbrev ws : List Block
   ws = newBlocks (front (blocksOf N store)) (blanks (blocksOf N store)) c []
@@ -132,7 +132,7 @@ module _ (store copy : Bytes) (stamp mask : ℕ) (ty : stamp < 2 ^ 32) (C : Clea
   count = count-is N store copy d E K lo hi stamp mask 0 ty own
 
   short : last h < 65_535
-  short = omega (arith, used-low h, K .used, K .room, sized .2)
+  short = omega (arith, K .used, K .room, sized .2)
 
   C′ : Committable d stamp mask
   C′ = committable d stamp mask lines lo hi ty
@@ -274,6 +274,7 @@ module _ (store copy : Bytes) (stamp mask : ℕ) (ty : stamp < 2 ^ 32) (C : Clea
       record {
         accepted = none-holds (storeConditions f) cl;
         history = inl e;
+        marks = ap marks (log-held N f h u m Y ∙ ap (λ (l : Bytes). logAll (blocksOf N l)) b ∙ sym (log-stored N store h u S));
         exactly = ((λ q. absurd (longer h c (sym e ∙ q))), (λ q. absurd (o (q ∙ new-block))));
         seats = λ other D. same-seats store f (none-holds (storeConditions f) cl) e other D;
         restored = λ n g s. restored n f g cl s;
@@ -303,6 +304,7 @@ module _ (store copy : Bytes) (stamp mask : ℕ) (ty : stamp < 2 ^ 32) (C : Clea
       record {
         accepted = none-holds (storeConditions f) cl;
         history = inr e;
+        marks = T .marked;
         exactly = ((λ q. refl), (λ q. e));
         seats = λ other D. others-accepted store copy other A D (Commits stamp mask) ty;
         restored = λ n g s. restored n f g cl s;
@@ -374,14 +376,10 @@ whole-commit store copy stamp mask ty = go (refusalOf store copy (Commits stamp 
     go none e = let C = clear (bothConditions store copy (Commits stamp mask)) e in usual store copy stamp mask ty C 33 (few-writes store copy stamp mask ty C)
 
 -- where a commit is refused, it is whatever n is
-refuses : (store copy : Bytes) (stamp mask n r : ℕ) → commitCall store copy stamp mask .says ≡ refused r → commitCutCall store copy stamp mask n ≡ out (refused r) store copy
+pub refuses : (store copy : Bytes) (stamp mask n r : ℕ) → commitCall store copy stamp mask .says ≡ refused r → commitCutCall store copy stamp mask n ≡ out (refused r) store copy
 unfolding changeCall commitCutCall refusalOf
 refuses store copy stamp mask n r e = go (refusalOf store copy (Commits stamp mask)) e
   where
     go : (o : Option ℕ) → changeBy o store copy (Commits stamp mask) .says ≡ refused r → stoppedBy o store copy stamp mask n ≡ out (refused r) store copy
     go (some m) e = ap (λ (a : Answer). out a store copy) e
     go none e = let z : _≡_ {A = ℕ} 0 1 = cc in absurd (omega arith)
-
--- THE RULE
-pub cut-anywhere : CutAnywhere
-cut-anywhere store copy = record { commits = λ stamp mask ty C. cut-commit store copy stamp mask ty C; clears = cut-clearing store; refuses = refuses store copy; keeps = keeps store }

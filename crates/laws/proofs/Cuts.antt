@@ -17,17 +17,18 @@ use Rattle.model.specs.Cut.{Clearings, CutClearing, FoundClearing, Restored, Wr
 use Rattle.model.specs.Fitting.{fitsStore}
 use Rattle.model.specs.History.{Bytes, History}
 use Rattle.model.specs.Machine.{Answer, Clears, done, refused, stopped}
-use Rattle.model.specs.Refusals.{_when_, Clear, firstOf}
+use Rattle.model.specs.Refusals.{Clear, _when_, firstOf}
 use Rattle.model.specs.Shows.{Accepted}
-use Rattle.model.specs.Store.{bareOf, blankFrom, blockCount, blocksOf, storeHistory, tailOf, usedOf}
+use Rattle.model.specs.Store.{bareOf, blankFrom, blockCount, blocksOf, storeHistory, storeLog, tailOf, usedOf}
 use Rattle.model.specs.Tail.{Stored, Tailed}
 use Rattle.model.specs.WorkCopy.{copyOk, entriesOf}
 use Rattle.laws.proofs.Acceptance.{lays-accepted}
 use Rattle.laws.proofs.Conditions.{clear, clear-first, clear-split, none-holds, sized-so}
 use Rattle.laws.proofs.Cutting.{blank-all, cleared-kin, junk-kin}
-use Rattle.laws.proofs.Store.{bare-held, clear-held, history-held, stored-tailed, tailed-none, taken-tailed}
+use Rattle.laws.proofs.Store.{bare-held, clear-held, history-held, log-held, stored-tailed, tailed-none, taken-tailed}
 use Rattle.laws.proofs.Tailing.{length-store}
 use Rattle.laws.proofs.Writing.{holds-blocks, some-front}
+use Rattle.model.specs.Pass.{logAll}
 
 -- ---- zeros from one block more on
 
@@ -76,6 +77,9 @@ pub record Kin (N : ℕ) (h : History) (used : ℕ) (bare g : Bytes) : Type 0 wh
 module _ (N : ℕ) (h : History) (used : ℕ) (bare g : Bytes) (K : Kin N h used bare g) where
   kin-history : storeHistory g ≡ h
   kin-history = history-held N g h used (K .tail) (K .tailed)
+
+  kin-log : storeLog g ≡ logAll (blocksOf N bare)
+  kin-log = log-held N g h used (K .tail) (K .tailed) ∙ ap (λ (l : Bytes). logAll (blocksOf N l)) (K .same)
 
   kin-bare : bareOf g ≡ bare
   kin-bare = bare-held N g h used (K .tail) (K .tailed) ∙ K .same
@@ -182,6 +186,7 @@ module _ (store : Bytes) (C : Clear (storeConditions store)) where
   self = record {
     accepted = none-holds (storeConditions store) C;
     history = refl;
+    log = refl;
     clears = clear-is;
     bare = subst (λ (l : Bytes). Tailed N l (storeHistory store) u 0) (sym (bare-held N store (storeHistory store) u t X)) (stored-tailed N (X .bare) (storeHistory store) u (X .stored));
     seats = λ copy A. A;
@@ -203,6 +208,7 @@ restored (suc k) f g C s =
     record {
       accepted = R .accepted;
       history = R .history ∙ hm;
+      log = R .log ∙ kin-log N h u (bareOf f) mid K;
       clears = R .clears ∙ (λ i. record { says = done; buffer = b i });
       bare = self f C .bare;
       seats = λ copy A. same-seats f g (R .accepted) (R .history ∙ hm) copy A;

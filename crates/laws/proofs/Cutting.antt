@@ -124,10 +124,6 @@ module _ (N : ℕ) (store : Bytes) (h : History) (used t : ℕ) (X : Tailed N st
             (blank-is t (let z : t ≤ t = omega arith in z) ∙ ap (λ (x : List ℕ). joined fieldsOf fr ++ (x ++ replicate {A = ℕ} (512 * (N - used - t)) 0)) whole))
       ]
 
-  -- a tail of which only the first m blocks are left
-  pub cleared-to : (m : ℕ) → m ≤ t → Tailed N (blankFrom (used + m) store) h used m
-  cleared-to m g = cleared-kin m g .0
-
   -- nothing of it cleared
   pub blank-all : blankFrom (used + t) store ≡ store
   blank-all =

@@ -1,36 +1,39 @@
 -- Demand 1: on any bytes whatever a call answers a number if and only if its condition is the first that holds, and then every buffer stays; otherwise it is done as the
 -- machine does it.
 -- Assumes nothing.
-use Prim.Native.Nat.{_-_, _≤_, ℕ}
-use mathlib.Core.List.{_∷_, List, []}
-use mathlib.Core.Bool.{Bool, cond}
+use Prim.Native.Nat.{_-_, _<_, _^_, _≤_, ℕ}
+use mathlib.Core.List.{List, [], _++_, _∷_}
+use mathlib.Core.Bool.{Bool, _||_, cond, false, not, true}
 use mathlib.Core.Logic.{_↔_}
 use mathlib.Core.Option.{Option, none, some}
-use mathlib.Core.Path.{_∙_, _≡_, ap, refl, subst, sym}
+use mathlib.Core.Path.{_∙_, _≡_, ap, ap₂, refl, subst, sym}
 use native.Mathlib.Omega.{arith}
 use lib.ListN.{length, replicate}
-use Rattle.model.specs.Calls.{Created, Out, answerBy, bothConditions, call, changeBy, changeCall, clearCall, clearCutCall, clearedBy, commitCutCall, commitWrites, conditionsIn, createBy, createCopy, createCopyConditions, createStore, foundPlace, freshCopy, freshStore, heard, logCall, out, ownPlace, placeBy, readCall, readPlace, refusalOf, showPlace, sideIn, sizeCondition, statusCall, stoppedBy, storeConditions, storeOnlyConditions, storeRefusal, storeSide}
-use Rattle.model.specs.Demand1.{Cleared, ClearedSome, Demand1, DoneOn, Refuses}
-use borrow.Author.Tests.{leb-true}
+use Rattle.model.specs.Calls.{Created, Out, answerBy, beside, bothConditions, call, changeBy, changeCall, clearCall, clearCutCall, clearedBy, commitCutCall, commitWrites, conditionsIn, createBy, createCopy, createCopyConditions, createStore, foundPlace, freshCopy, freshStore, heard, logCall, markBy, markCall, noPlace, out, ownPlace, panelCall, panelPlace, placeBy, readCall, readPlace, refusalOf, releaseCall, showPlace, sideIn, sizeCondition, statusCall, stoppedBy, storeConditions, storeOnlyConditions, storeRefusal, storeSide}
+use Rattle.model.specs.Demand1.{Cleared, ClearedSome, Demand1, DoneOn, MarkMade, Refuses}
+use borrow.Author.Tests.{le-ltb, leb-true}
 use lib.Dec.{leb}
 use Rattle.model.specs.Entry.{empty, ownBytes}
 use Rattle.model.specs.Fitting.{FitsEntry}
-use Rattle.model.specs.History.{Bytes, last}
-use Rattle.model.specs.Machine.{Add, Answer, Call, Clears, ClearsCut, Commits, CommitsCut, Copy, Delete, Edit, Log, Move, Read, Revert, Show, Side, Status, Update, doing, done, entry, refusal, refused, stopped}
-use Rattle.model.specs.Refusals.{Clear, Condition, First, conditions, firstOf, tailConditions}
+use Rattle.model.specs.History.{Bytes, last, present, sheet}
+use Rattle.model.specs.Log.{among, panelRevision, releases}
+use Rattle.model.specs.Machine.{Add, Answer, Call, Clears, ClearsCut, Commits, CommitsCut, Copy, Delete, Edit, Log, Move, Panel, Read, Release, Revert, Show, Side, Status, Update, doing, done, entry, refusal, refused, stopped}
+use Rattle.model.specs.Refusals.{Clear, Condition, First, _when_, conditions, firstOf, noSheet, tailConditions, tooLate}
 use Rattle.model.specs.Run.{Typed, ownConditions, sideBy, sideStep}
 use Rattle.model.specs.Shows.{Accepted, Seen}
-use Rattle.model.specs.Store.{bareOf, blockCount, storeHistory, tailOf, usedOf}
+use Rattle.model.specs.Store.{bareOf, blockCount, storeHistory, storeMarks, tailOf, usedOf}
 use Rattle.laws.proofs.Accepted.{accepted-call, clear-accepted}
 use Rattle.model.specs.Tail.{Tailed}
-use Rattle.laws.proofs.Conditions.{clear-first, clear-split, first-iff, none-holds}
+use Rattle.laws.proofs.Conditions.{clear, clear-first, clear-split, first-iff, none-holds}
 use Rattle.laws.proofs.Demand2.{laid-copy}
 use Rattle.laws.proofs.Fresh.{fresh-copy}
+use Rattle.laws.proofs.Logs.{greatest-low, greatest-none}
 use Rattle.laws.proofs.Rows.{cond-any, replicate-any}
+use Rattle.laws.proofs.Trees.{sheet-zero}
 
 -- a call whose first line that holds has the number n
 pub refused-leaves : (store copy : Bytes) (c : Call) (n : ℕ) → firstOf (conditionsIn store copy c) ≡ some n → call store copy c ≡ out (refused n) store copy
-unfolding changeCall clearCall clearCutCall commitCutCall readPlace showPlace statusCall logCall refusalOf storeRefusal
+unfolding changeCall clearCall clearCutCall commitCutCall markCall panelPlace readPlace showPlace statusCall logCall refusalOf storeRefusal
 refused-leaves store copy (Add i x) n e = ap (λ (o : Option ℕ). changeBy o store copy (Add i x)) e
 refused-leaves store copy (Edit i x) n e = ap (λ (o : Option ℕ). changeBy o store copy (Edit i x)) e
 refused-leaves store copy (Delete i) n e = ap (λ (o : Option ℕ). changeBy o store copy (Delete i)) e
@@ -48,6 +51,9 @@ refused-leaves store copy (Log R i) n e = ap (λ (o : Option ℕ). out (answerBy
 refused-leaves store copy Clears n e = ap (λ (o : Option ℕ). out (createBy o store (bareOf store) .says) (createBy o store (bareOf store) .buffer) copy) e
 refused-leaves store copy (CommitsCut stamp mask m) n e = ap (λ (o : Option ℕ). stoppedBy o store copy stamp mask m) e
 refused-leaves store copy (ClearsCut m) n e = ap (λ (o : Option ℕ). out (clearedBy o store m .says) (clearedBy o store m .buffer) copy) e
+refused-leaves store copy (Release R seat stamp) n e = ap (λ (o : Option ℕ). beside (markBy o store (Release R seat stamp)) copy) e
+refused-leaves store copy (Panel R i) n e =
+    ap (λ (o : Option ℕ). out (heard store [] (placeBy o (foundPlace store (panelRevision (storeMarks store) R) i))) store copy) e
 
 own-heard : (store copy : Bytes) (o : Option Bytes) (i R : ℕ) → refusal (heard store copy (ownPlace o i (foundPlace store R i))) ≡ none
 own-heard store copy none i R = refl
@@ -55,7 +61,7 @@ own-heard store copy (some x) i R = refl
 
 -- a call of which no line holds
 pub unrefused-answers : (store copy : Bytes) (c : Call) → firstOf (conditionsIn store copy c) ≡ none → refusal (call store copy c .says) ≡ none
-unfolding changeCall clearCall clearCutCall commitCutCall readPlace showPlace statusCall logCall refusalOf storeRefusal
+unfolding changeCall clearCall clearCutCall commitCutCall markCall panelPlace readPlace showPlace statusCall logCall refusalOf storeRefusal
 unrefused-answers store copy (Add i x) e = ap (λ (o : Option ℕ). refusal (changeBy o store copy (Add i x) .says)) e
 unrefused-answers store copy (Edit i x) e = ap (λ (o : Option ℕ). refusal (changeBy o store copy (Edit i x) .says)) e
 unrefused-answers store copy (Delete i) e = ap (λ (o : Option ℕ). refusal (changeBy o store copy (Delete i) .says)) e
@@ -76,6 +82,9 @@ unrefused-answers store copy (CommitsCut stamp mask m) e =
     ∙ cond-any (λ (x : Out). refusal (x .says) ≡ none) (leb (length (commitWrites store copy stamp mask)) m) (λ t. refl) (λ t. refl)
 unrefused-answers store copy (ClearsCut m) e =
     ap (λ (o : Option ℕ). refusal (clearedBy o store m .says)) e ∙ cond-any (λ (x : Created). refusal (x .says) ≡ none) (leb (tailOf store) m) (λ t. refl) (λ t. refl)
+unrefused-answers store copy (Release R seat stamp) e = ap (λ (o : Option ℕ). refusal (markBy o store (Release R seat stamp) .says)) e
+unrefused-answers store copy (Panel R i) e =
+    ap (λ (o : Option ℕ). refusal (heard store [] (placeBy o (foundPlace store (panelRevision (storeMarks store) R) i)))) e
 
 -- the number that a call answers is that of the first line that holds, and there is none where none holds
 pub numbered-call : (store copy : Bytes) (c : Call) → refusal (call store copy c .says) ≡ firstOf (conditionsIn store copy c)
@@ -130,11 +139,62 @@ module _ (store copy : Bytes) where
       accepted-call store (freshCopy 1) (mine (p .0)) (Log R i) tt .0
       ∙ ap (λ (o : Option ℕ). sideBy o d (Log R i) .0) (none-holds (conditions d (Log R i)) (p .1))
 
+  -- panel reading is read at the greatest released revision
+  panel-place : (R i : ℕ) → R ≤ last (storeHistory store) → panelPlace store R i ≡ readPlace store (panelRevision (storeMarks store) R) i
+  unfolding panelPlace readPlace storeRefusal
+  panel-place R i le =
+      let h = storeHistory store in
+      let r : ℕ = panelRevision (storeMarks store) R in
+      let e : tooLate h R ≡ tooLate h r = le-ltb (last h) R le ∙ sym (le-ltb (last h) r (omega (arith, le, greatest-low R (releases (storeMarks store))))) in
+      ap (λ (b : Bool). placeBy (firstOf (storeConditions store ++ (7 when (noSheet i || b) ∷ 8 when not (present (sheet h r i)) ∷ []))) (foundPlace store r i)) e
+
+  panel-none : (R i : ℕ) → Clear (storeConditions store) → R ≤ last (storeHistory store) → i ≤ 31
+      → ((x : ℕ) → among x (releases (storeMarks store)) ≡ true → x ≤ R → ⊥) → panelPlace store R i ≡ noPlace 8
+  unfolding panelPlace storeRefusal
+  panel-none R i C le small none-up =
+      let h = storeHistory store in
+      let z : panelRevision (storeMarks store) R ≡ 0 = greatest-none R (releases (storeMarks store)) none-up in
+      let seven : (noSheet i || tooLate h R) ≡ false = ap₂ _||_ (le-ltb 31 i small) (le-ltb (last h) R le) in
+      let gone : sheet h (panelRevision (storeMarks store) R) i ≡ none = ap (λ (r : ℕ). sheet h r i) z ∙ sheet-zero h i in
+      ap (λ (o : Option ℕ). placeBy o (foundPlace store (panelRevision (storeMarks store) R) i))
+      (clear-first (storeConditions store) (7 when (noSheet i || tooLate h R) ∷ 8 when not (present (sheet h (panelRevision (storeMarks store) R) i)) ∷ []) C
+      ∙ ap₂ (λ (a : Bool) (o : Option Bytes). firstOf (7 when a ∷ 8 when not (present o) ∷ [])) seven gone)
+
+  panels : (R i : ℕ) → Clear (storeOnlyConditions store (Panel R i)) → panelCall store R i ≡ doing (storeSide store) (Panel R i) .0
+  panels R i h =
+      let p = clear-split (storeConditions store) (conditions (storeSide store) (Panel R i)) h in
+      let d : Side = sideIn store (freshCopy 1) in
+      accepted-call store (freshCopy 1) (mine (p .0)) (Panel R i) tt .0
+      ∙ ap (λ (o : Option ℕ). sideBy o d (Panel R i) .0) (none-holds (conditions d (Panel R i)) (p .1))
+
+  makes : (R seat stamp : ℕ) → stamp < 2 ^ 32 → Clear (storeOnlyConditions store (Release R seat stamp))
+      → MarkMade store (doing (storeSide store) (Release R seat stamp)) (releaseCall store R seat stamp)
+  makes R seat stamp ty h =
+      let d : Side = sideIn store (freshCopy 1) in
+      let c : Call = Release R seat stamp in
+      let p = clear-split (storeConditions store) (ownConditions (storeSide store) c) h in
+      let r = accepted-call store (freshCopy 1) (mine (p .0)) c ty in
+      let e : sideStep d c ≡ doing d c = ap (λ (o : Option ℕ). sideBy o d c) (none-holds (ownConditions d c) (p .1)) in
+      let S = subst (λ (x : Answer × Side). Seen (blockCount store) (releaseCall store R seat stamp .buffer) (freshCopy 1) (x .1)) e (r .1) in
+      record { says = r .0 ∙ ap (λ (x : Answer × Side). x .0) e; holds = S .stored; marks = S .marked }
+
+  -- a release that is done was not refused
+  pub release-lines : (R seat stamp : ℕ) → releaseCall store R seat stamp .says ≡ done → Clear (storeOnlyConditions store (Release R seat stamp))
+  unfolding markCall storeRefusal
+  release-lines R seat stamp q = clear (storeOnlyConditions store c) (go (storeRefusal store c) refl q)
+    where
+      c : Call
+      c = Release R seat stamp
+
+      go : (o : Option ℕ) → storeRefusal store (Release R seat stamp) ≡ o → markBy o store (Release R seat stamp) .says ≡ done → storeRefusal store (Release R seat stamp) ≡ none
+      go (some n) e p = absurd (let z : _≡_ {A = ℕ} 0 1 = cc in omega arith)
+      go none e p = e
+
   clears : Clear (storeConditions store) → Cleared store (clearCall store)
   unfolding clearCall storeRefusal
   clears h =
       let r = accepted-call store (freshCopy 1) (mine h) Clears tt in
-      record { says = r .0; holds = r .1 .stored }
+      record { says = r .0; holds = r .1 .stored; marks = r .1 .marked }
 
   clears-cut : (n : ℕ) → Clear (storeConditions store) → ClearedSome store n (clearCutCall store n)
   clears-cut n h =
@@ -146,6 +206,9 @@ module _ (store copy : Bytes) where
             cond-any (λ (x : Answer × Side). Tailed (blockCount store) (clearCutCall store n .buffer) (x .1 .history) (x .1 .used) (x .1 .tail) → Tailed (blockCount store) (clearCutCall store n .buffer) (storeHistory store) (usedOf store) (tailOf store - n)) (leb (tailOf store) n)
             (λ t y. let z : 0 ≡ tailOf store - n = omega (arith, leb-true (tailOf store) n t) in subst (λ (k : ℕ). Tailed (blockCount store) (clearCutCall store n .buffer) (storeHistory store) (usedOf store) k) z y) (λ t y. y)
             (r .1 .stored);
+        marks =
+            cond-any (λ (x : Answer × Side). storeMarks (clearCutCall store n .buffer) ≡ x .1 .marks → storeMarks (clearCutCall store n .buffer) ≡ storeMarks store) (leb (tailOf store) n) (λ t y. y) (λ t y. y)
+            (r .1 .marked);
       }
 
 -- create
@@ -174,6 +237,10 @@ demand-one store copy = record {
   does = does store copy;
   reads = λ R i h. ap (λ (a : Answer). out a store copy) (reads store copy R i h);
   logs = λ R i h. ap (λ (a : Answer). out a store copy) (logs store copy R i h);
+  panel-place = panel-place store copy;
+  panel-none = panel-none store copy;
+  panels = λ R i h. ap (λ (a : Answer). out a store copy) (panels store copy R i h);
+  releases = makes store copy;
   clears = clears store copy;
   clears-cut = clears-cut store copy;
   store-numbered = create-first store (freshStore (blockCount store)) (sizeCondition store ∷ []);

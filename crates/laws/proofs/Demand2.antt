@@ -4,7 +4,7 @@ use Prim.Native.Nat.{ℕ}
 use mathlib.Core.Bool.{false, not, true}
 use mathlib.Core.List.{List}
 use mathlib.Core.Option.{Option, none, some}
-use mathlib.Core.Path.{_∙_, _≡_, ap, refl}
+use mathlib.Core.Path.{_∙_, _≡_, ap, refl, subst, sym}
 use native.Mathlib.Nat.{zero-add}
 use borrow.Author.Tests.{eq-eqb, eqb-true, le-leb, leb-true, not-false, not-true}
 use lib.Dec.{eqb, leb}
@@ -15,34 +15,51 @@ use Rattle.model.specs.Demand2.{Demand2, LaidStore}
 use Rattle.model.specs.Entry.{Entry, added, copied, deleted, empty, normal}
 use Rattle.model.specs.Fitting.{FitsEntry, FitsRows, Has, fitsEntry, fitsStore, has}
 use Rattle.model.specs.History.{Bytes, History, last, present, sheet}
+use Rattle.model.specs.Log.{Log, commits}
 use Rattle.model.specs.Refusals.{firstOf}
 use Rattle.model.specs.Rows.{some-row}
-use Rattle.model.specs.Store.{blockCount, storeHistory, tailOf, usedOf}
+use Rattle.model.specs.Store.{HoldsLog, bareOf, blockCount, storeHistory, storeLog, tailOf, usedOf}
+use Rattle.model.specs.Tail.{Tailed}
 use Rattle.model.specs.WorkCopy.{HoldsCopy, copyOk, entriesOf, seatOf}
 use Rattle.laws.proofs.Accepted.{both}
 use Rattle.laws.proofs.Conditions.{clear, none-holds, sized-so}
+use Rattle.laws.proofs.Holding.{history-logged, log-holds, logged-accepted}
 use Rattle.laws.proofs.Rows.{is-T, no-row, no-rows}
-use Rattle.laws.proofs.Store.{clear-held, history-held, tail-held, taken-tailed, used-held}
+use Rattle.laws.proofs.Store.{bare-held, clear-held, history-held, log-held, tail-held, taken-holds, taken-tailed, used-held}
 use Rattle.laws.proofs.WorkCopy.{copy-holds, holds-copy}
 use Rattle.laws.proofs.Writing.{is-some}
 
 -- ---- the store
 
-store-laid : (store : Bytes) → firstOf (storeConditions store) ≡ none → LaidStore store (storeHistory store)
+pub store-laid : (store : Bytes) → firstOf (storeConditions store) ≡ none → LaidStore store (storeLog store)
 store-laid store e =
     let q = sized-so store (clear (storeConditions store) e .0) in
-    record { count = blockCount store; few = q .1; many = q .2; used = usedOf store; tail = tailOf store; holds = taken-tailed store e }
+    let n = blockCount store in
+    let X = taken-tailed store e in
+    let h : storeHistory store ≡ commits (storeLog store) = sym (history-logged n (bareOf store)) in
+    let X′ : Tailed n store (commits (storeLog store)) (usedOf store) (tailOf store) = subst (λ (x : History). Tailed n store x (usedOf store) (tailOf store)) h X in
+    record {
+      count = n;
+      few = q .1;
+      many = q .2;
+      used = usedOf store;
+      tail = tailOf store;
+      holds = X′;
+      log = subst (λ (l : Bytes). HoldsLog n l (storeLog store)) (bare-held n store (commits (storeLog store)) (usedOf store) (tailOf store) X′) (log-holds n (bareOf store) (storeHistory store) (taken-holds store e));
+    }
 
-laid-store : (store : Bytes) (h : History) (L : LaidStore store h)
-    → (firstOf (storeConditions store) ≡ none) × ((storeHistory store ≡ h) × (usedOf store ≡ L .used) × (tailOf store ≡ L .tail))
-laid-store store h L = (
-  none-holds (storeConditions store) (clear-held (L .count) store h (L .used) (L .tail) (L .holds) (L .few) (L .many)),
-  (
-    history-held (L .count) store h (L .used) (L .tail) (L .holds),
-    used-held (L .count) store h (L .used) (L .tail) (L .holds),
-    tail-held (L .count) store h (L .used) (L .tail) (L .holds),
-  ),
-)
+laid-store : (store : Bytes) (g : Log) (L : LaidStore store g)
+    → (firstOf (storeConditions store) ≡ none) × ((storeLog store ≡ g) × (storeHistory store ≡ commits g) × (usedOf store ≡ L .used) × (tailOf store ≡ L .tail))
+laid-store store g L =
+    let h : History = commits g in (
+      none-holds (storeConditions store) (clear-held (L .count) store h (L .used) (L .tail) (L .holds) (L .few) (L .many)),
+      (
+        log-held (L .count) store h (L .used) (L .tail) (L .holds) ∙ logged-accepted (L .count) (L .holds .bare) g (L .log) .2,
+        history-held (L .count) store h (L .used) (L .tail) (L .holds),
+        used-held (L .count) store h (L .used) (L .tail) (L .holds),
+        tail-held (L .count) store h (L .used) (L .tail) (L .holds),
+      ),
+    )
 
 -- ---- the copy
 
@@ -95,8 +112,8 @@ laid-copy store copy k es p =
 -- THE STATEMENT
 pub demand-two : (store copy : Bytes) → Demand2 store copy
 demand-two store copy = record {
-  store-accepted = (λ e. (storeHistory store, store-laid store e), λ p. laid-store store (p .0) (p .1) .0);
-  store-read = λ h L. laid-store store h L .1;
+  store-accepted = (λ e. (storeLog store, store-laid store e), λ p. laid-store store (p .0) (p .1) .0);
+  store-read = λ g L. laid-store store g L .1;
   copy-accepted = (
     λ e. let p = copy-laid store copy e in (seatOf copy, entriesOf copy, p .0, p .1),
     λ p. laid-copy store copy (p .0) (p .1) (p .2, p .3) .0,

@@ -11,22 +11,24 @@ use borrow.Author.Tests.{le-ltb, ne-eqb}
 use lib.Dec.{eqb, ltb}
 use lib.ListN.{getD, length, length-append, take}
 use Rattle.model.specs.Calls.{Buffers, afterTurn, answersOn, call, freshBuffers, readCall, runOn}
-use Rattle.model.specs.Demand3.{Brings, Demand3, Finds, NothingPending, copyIn}
+use Rattle.model.specs.Demand3.{Brings, Demand3, Finds, NothingPending, PanelFinds, copyIn}
 use Rattle.model.specs.Entry.{Entry, added, copied, deleted, empty, modified, normal, pending}
 use Rattle.model.specs.History.{History, change, last, namer, names, nothing, sheet}
 use Rattle.model.specs.Invariant.{Kept}
 use Rattle.model.specs.Machine.{Answer, Side, State, Update, agreed, asBytes, asIn, chosen, doing, entry, fresh, sameNamer, sideOf, updated}
+use Rattle.model.specs.Log.{Placed, commits, marks, panelRevision, releases}
 use Rattle.model.specs.Refusals.{conditions, conflict, firstOf, lacking, tooLate}
 use Rattle.model.specs.Rows.{some-row}
-use Rattle.model.specs.Run.{AllValid, Turn, accepted, answers, asked, isRevision, run, sideBy, sideStep, step}
+use Rattle.model.specs.Run.{AllValid, Turn, accepted, acceptedMarks, answers, asked, isRevision, run, sideBy, sideStep, step}
 use Rattle.model.specs.Shows.{Seen, Shows}
-use Rattle.laws.proofs.Answers.{read-side, up-to-date}
+use Rattle.laws.proofs.Answers.{panel-side, read-side, up-to-date}
 use Rattle.laws.proofs.Conditions.{none-holds}
 use Rattle.laws.proofs.Fresh.{fresh-shows}
 use Rattle.laws.proofs.Invariant.{kept-fresh, kept-run, kept-side, kept-step}
-use Rattle.laws.proofs.Lasting.{found}
+use Rattle.laws.proofs.Lasting.{found, found-marks}
+use Rattle.laws.proofs.Logs.{greatest-low}
 use Rattle.laws.proofs.Rows.{and-nothing, no-rows}
-use Rattle.laws.proofs.Steps.{one-step, read-one, seen-seat, side-one}
+use Rattle.laws.proofs.Steps.{one-step, panel-one, read-one, seen-seat, side-one}
 use Rattle.laws.proofs.Trees.{namer-grown, sheet-grown}
 use Rattle.laws.proofs.WorkCopy.{holds-copy}
 
@@ -65,6 +67,22 @@ read-found N b s R i W K le small =
     read-one N (b .store) (getD (b .copies) 0 []) (sideOf s 1) (seen-seat N b s 1 W (omega arith) (omega arith)) (kept-side s 1 K (omega arith) (omega arith)) (omega arith) (omega arith) R i
     ∙ read-side false (sideOf s 1) R i (namer (s .history) R i) (sheet (s .history) R i) refl refl
     (let p : ltb 31 i ≡ false = le-ltb 31 i small in let q : ltb (last (s .history)) R ≡ false = le-ltb (last (s .history)) R le in ap₂ _||_ p q)
+
+-- what a panel finds
+pub panel-found : (N : ℕ) (b : Buffers) (s : State) (R i : ℕ) → Shows N b s → Kept s → R ≤ last (s .history) → i ≤ 31
+    → PanelFinds b (s .history) (s .marks) R i
+panel-found N b s R i W K le small =
+    panel-one N (b .store) (getD (b .copies) 0 []) (sideOf s 1) (seen-seat N b s 1 W (omega arith) (omega arith)) (kept-side s 1 K (omega arith) (omega arith)) (omega arith) (omega arith) R i
+    ∙ panel-side (sideOf s 1) R i (sheet (s .history) (panelRevision (s .marks) R) i) refl
+    (let p : ltb 31 i ≡ false = le-ltb 31 i small in let q : ltb (last (s .history)) R ≡ false = le-ltb (last (s .history)) R le in ap₂ _||_ p q)
+
+-- at R it looks at the first R commits alone
+pub panel-grown : (h more : History) (ms : List Placed) (R i : ℕ) → R ≤ last h → (k : History) → k ≡ h ++ more
+    → asBytes (namer k (panelRevision ms R) i) (sheet k (panelRevision ms R) i) ≡ asBytes (namer h (panelRevision ms R) i) (sheet h (panelRevision ms R) i)
+panel-grown h more ms R i le k e =
+    let r : ℕ = panelRevision ms R in
+    let low : r ≤ last h = omega (arith, greatest-low R (releases ms)) in
+    ap (λ (x : History). asBytes (namer x r i) (sheet x r i)) e ∙ ap₂ asBytes (namer-grown h more r i low) (sheet-grown h more r i low)
 
 -- a seat with nothing pending meets no conflict
 pub no-conflict : (h : History) (R i : ℕ) (e : Entry) → pending h i e ≡ false → conflict h R i e ≡ false
@@ -113,7 +131,9 @@ demand-three N ts lo hi v = record {
   answer = whole N (freshBuffers N) (fresh N) ts (fresh-shows N lo hi) (kept-fresh N (omega arith)) v .0;
   shows = λ n. shows-after (take n ts) (valid-take n ts v);
   commits = found N ts;
+  marks = found-marks N ts;
   found = λ R i le small. finds ts v R i le small;
+  panel = λ R i le small. panels ts v R i le small;
   brought = λ k mask R l g nz le np.
       subst (λ (h : History). Brings (call (runOn (freshBuffers N) ts .store) (copyIn (runOn (freshBuffers N) ts) k) (Update mask R)) h mask R) (found N ts)
       (update-brings N (runOn (freshBuffers N) ts) (run (fresh N) ts) k mask R (shows-after ts v) (kept-after ts v) l g nz (subst (λ (h : History). R ≤ last h) (sym (found N ts)) le)
@@ -124,6 +144,12 @@ demand-three N ts lo hi v = record {
       finds (ts ++ us) (valid-append ts us v w) R i le′ small
       ∙ ap (λ (h : History). asBytes (namer h R i) (sheet h R i)) e
       ∙ ap₂ asBytes (namer-grown (accepted (fresh N) ts) (accepted (run (fresh N) ts) us) R i le) (sheet-grown (accepted (fresh N) ts) (accepted (run (fresh N) ts) us) R i le);
+  lasting-panel = λ us w R i le small.
+      let h : History = accepted (fresh N) ts in
+      let more : History = accepted (run (fresh N) ts) us in
+      let e : accepted (fresh N) (ts ++ us) ≡ h ++ more = accepted-append (fresh N) ts us in
+      let le′ : R ≤ length (accepted (fresh N) (ts ++ us)) = (let n = ap length e ∙ length-append h more in omega (arith, n)) in
+      panels (ts ++ us) (valid-append ts us v w) R i le′ small ∙ panel-grown h more (acceptedMarks (fresh N) (ts ++ us)) R i le (accepted (fresh N) (ts ++ us)) e;
 }
   where
     shows-after : (us : List Turn) → AllValid us → Shows N (runOn (freshBuffers N) us) (run (fresh N) us)
@@ -131,6 +157,12 @@ demand-three N ts lo hi v = record {
 
     kept-after : (us : List Turn) → AllValid us → Kept (run (fresh N) us)
     kept-after us w = kept-run (fresh N) us w (kept-fresh N (omega arith))
+
+    panels : (us : List Turn) → AllValid us → (R i : ℕ) → R ≤ length (accepted (fresh N) us) → i ≤ 31
+        → PanelFinds (runOn (freshBuffers N) us) (accepted (fresh N) us) (acceptedMarks (fresh N) us) R i
+    panels us w R i le small =
+        panel-found N (runOn (freshBuffers N) us) (run (fresh N) us) R i (shows-after us w) (kept-after us w) (subst (λ (h : History). R ≤ last h) (sym (found N us)) le) small
+        ∙ ap₂ (λ (h : History) (ps : List Placed). asBytes (namer h (panelRevision ps R) i) (sheet h (panelRevision ps R) i)) (found N us) (found-marks N us)
 
     finds : (us : List Turn) → AllValid us → (R i : ℕ) → R ≤ length (accepted (fresh N) us) → i ≤ 31 → Finds (runOn (freshBuffers N) us) (accepted (fresh N) us) R i
     finds us w R i le small =

@@ -14,14 +14,16 @@ use Rattle.model.specs.Blocks.{Block, FitsBlock, blank, label}
 use Rattle.model.specs.Calls.{createBy, createCopy, createStore, freshBuffers, freshCopy, freshStore}
 use Rattle.model.specs.Entry.{empty}
 use Rattle.model.specs.History.{Bytes}
-use Rattle.model.specs.Layout.{Lays, LaysFrom}
+use Rattle.model.specs.Layout.{LaysFrom, LaysLog}
+use Rattle.model.specs.Log.{marks}
 use Rattle.model.specs.Machine.{done, fresh}
 use Rattle.model.specs.Shows.{Shows}
 use Rattle.model.specs.Tail.{Stored}
-use Rattle.model.specs.Store.{Holds, blockCount, blocksOf, front}
+use Rattle.model.specs.Store.{Holds, HoldsLog, blockCount, blocksOf, front, storeMarks}
 use Rattle.model.specs.WorkCopy.{FitsCopyBlock, HoldsCopy, entryBlock}
 use Rattle.laws.proofs.Conditions.{so-sized}
-use Rattle.laws.proofs.Store.{stored-tailed}
+use Rattle.laws.proofs.Holding.{logged-accepted}
+use Rattle.laws.proofs.Store.{log-stored, stored-tailed}
 use Rattle.laws.proofs.WorkCopy.{copy-bytes}
 use Rattle.laws.proofs.Writing.{blocks-back, front-none}
 
@@ -45,12 +47,14 @@ module _ (N : ℕ) (le : 1 ≤ N) where
   fresh-front =
       ap front (blocks-back N bs counted (tt, blank-fits (N - 1))) ∙ ap (λ (x : List Block). label ∷ x) (front-none (replicate (N - 1) blank) (blank-all (N - 1)))
 
+  -- no commit, and no mark
+  pub fresh-log : HoldsLog N (freshStore N) []
+  unfolding HoldsLog LaysLog LaysFrom
+  fresh-log = (bs, counted, (tt, blank-fits (N - 1)), refl, (replicate (N - 1) blank, refl, blank-all (N - 1)), tt)
+
   pub fresh-stored : Stored N (freshStore N) [] 1
-  unfolding Holds Lays LaysFrom
-  fresh-stored = record {
-    holds = (bs, counted, (tt, blank-fits (N - 1)), refl, (replicate (N - 1) blank, refl, blank-all (N - 1)));
-    uses = ap length fresh-front;
-  }
+  unfolding Holds
+  fresh-stored = record { holds = ([], refl, fresh-log); uses = ap length fresh-front }
 
 pub fresh-copy : (k : ℕ) → 1 ≤ k → k ≤ 4 → HoldsCopy (freshCopy k) k (replicate 32 empty)
 fresh-copy k lo hi = copy-bytes k (replicate 32 empty) refl lo hi (empties 32)
@@ -60,8 +64,13 @@ fresh-copy k lo hi = copy-bytes k (replicate 32 empty) refl lo hi (empties 32)
     empties (suc n) = (tt, empties n)
 
 pub fresh-shows : (N : ℕ) → 2 ≤ N → N ≤ 4_096 → Shows N (freshBuffers N) (fresh N)
-fresh-shows N lo hi = record { few = lo; many = hi; blocks = refl; store = stored-tailed N (freshStore N) [] 1 (fresh-stored N (omega arith)); four = refl; copies = each }
+fresh-shows N lo hi = record { few = lo; many = hi; blocks = refl; store = stored-tailed N (freshStore N) [] 1 (fresh-stored N (omega arith)); marked = no-marks; four = refl; copies = each }
   where
+    no-marks : storeMarks (freshStore N) ≡ []
+    no-marks =
+        let l : 1 ≤ N = omega arith in
+        ap marks (log-stored N (freshStore N) [] 1 (fresh-stored N l) ∙ logged-accepted N (freshStore N) [] (fresh-log N l) .2)
+
     each : (k : ℕ) → k < 4 → HoldsCopy (getD (freshBuffers N .copies) k []) (suc k) (getD (fresh N .seats) k [])
     each zero lt = fresh-copy 1 (omega arith) (omega arith)
     each (suc zero) lt = fresh-copy 2 (omega arith) (omega arith)

@@ -5,19 +5,20 @@ use mathlib.Core.Bool.{_&&_, not}
 use mathlib.Core.List.{List, [], _++_, _∷_, map}
 use mathlib.Core.Path.{_∙_, _≡_, ap, refl, subst, sym}
 use native.Mathlib.Omega.{arith}
-use lib.Dec.{T, eqb, lit≤}
+use lib.Dec.{T, eqb, eqb→eq, lit≤}
 use lib.ListN.{getD, length, length-map, replicate}
 use lib.Seq.{getD-append-add}
 use Rattle.block.proofs.Says.{and-true}
 use Rattle.block.specs.Lists.{All, all, same}
-use Rattle.model.specs.Blocks.{Block, blank, bytesAt, commit, content, held, label}
+use Rattle.model.specs.Blocks.{Block, blank, bytesAt, commit, content, held, label, mark}
 use Rattle.model.specs.History.{Change, Commit, History, add, change, copy, delete, nothing}
-use Rattle.model.specs.Layout.{Laid, Lays, LaysFrom, Table, user}
-use Rattle.model.specs.Pass.{grown, isBlank, laid, ok, okFrom, tablesAfter, tablesOf}
+use Rattle.model.specs.Layout.{Laid, Lays, LaysFrom, LaysLog, Table, user}
+use Rattle.model.specs.Log.{Log, aCommit, commits}
+use Rattle.model.specs.Pass.{grown, isBlank, laid, ok, okFrom, stands, tablesAfter, tablesOf}
 use Rattle.model.specs.Writing.{Plan, contentsFor, fresh, linesFor, newBlocks, newContents, newLines, planCopy, planOf, plans, shared, skip}
-use Rattle.laws.proofs.Acceptance.{lays-accepted}
+use Rattle.laws.proofs.Acceptance.{lays-accepted, log-lays}
 use Rattle.laws.proofs.All.{All-map}
-use Rattle.laws.proofs.Append.{Below, append, grown-below, unmoved, user-low, zero-below}
+use Rattle.laws.proofs.Append.{Below, append, grown-below, unmoved, user-low, wider, zero-below}
 use Rattle.laws.proofs.Bridge.{Allowed, Trees, allowed-lawful, trees-of}
 use Rattle.laws.proofs.Writer.{LawfulFrom, freshes, lawful-laid}
 
@@ -37,6 +38,11 @@ ends-below look at k tables (commit r seat stamp ls ∷ front) bl low below t n 
     let e : at + k + suc (length front) ≡ suc (at + k) + 0 + length front = omega arith in
     rw e (ends-below look (suc (at + k)) 0 (grown tables ls) front bl (omega arith)
     (grown-below look look (at + k) (λ p h. refl) at k tables low (omega arith) below seat ls (q .0)) (q .1) n)
+ends-below look at k tables (mark m ∷ front) bl low below t n =
+    let p = and-true (eqb k 0) (stands tables m && okFrom look (suc at) 0 tables (front ++ bl)) t in
+    let k0 : k ≡ 0 = eqb→eq k 0 (p .0) in
+    let e : at + k + suc (length front) ≡ suc at + 0 + length front = omega arith in
+    rw e (ends-below look (suc at) 0 tables front bl (omega arith) (wider at tables below) (and-true (stands tables m) (okFrom look (suc at) 0 tables (front ++ bl)) (p .1) .1) n)
 ends-below look at k tables (blank ∷ front) bl low below t n = absurd n
 
 pub length-contents : (cs : List Change) (ps : List Plan) → length ps ≡ length cs → length (contentsFor cs ps) ≡ freshes ps
@@ -79,17 +85,18 @@ tables-below (label ∷ front) bl h n some m =
     rw e (ends-below (bytesAt (label ∷ (front ++ bl))) 1 0 (replicate 32 0 ∷ []) front bl (lit≤ tt) (zero-below 32, tt) (lays-accepted (label ∷ (front ++ bl)) h m .0) n)
 tables-below (content r b ∷ front) bl h n some m = absurd (lays-accepted (content r b ∷ (front ++ bl)) h m .0)
 tables-below (commit r seat stamp ls ∷ front) bl h n some m = absurd (lays-accepted (commit r seat stamp ls ∷ (front ++ bl)) h m .0)
+tables-below (mark q ∷ front) bl h n some m = absurd (lays-accepted (mark q ∷ (front ++ bl)) h m .0)
 tables-below (blank ∷ front) bl h n some m = absurd n
 
 -- THE STATEMENT
-pub commit-lays : (front bl bl′ : List Block) (h : History) (c : Commit) → T (all (λ b. not (isBlank b)) front)
-    → All (λ (b : Block). b ≡ blank) bl → All (λ (b : Block). b ≡ blank) bl′ → 1 ≤ length front → Lays (front ++ bl) h
+pub commit-lays : (front bl bl′ : List Block) (g : Log) (c : Commit) → T (all (λ b. not (isBlank b)) front)
+    → All (λ (b : Block). b ≡ blank) bl → All (λ (b : Block). b ≡ blank) bl′ → 1 ≤ length front → LaysLog (front ++ bl) g
     → 1 ≤ c .seat → c .seat ≤ 4 → length (c .changes) ≡ 32 → LawfulFrom (bytesAt (front ++ bl)) (length front) 0 (tablesOf front) 0 (c .changes)
     → 1 ≤ length (newLines front bl c)
-    → Lays (front ++ newBlocks front bl c bl′) (h ++ (c ∷ []))
+    → LaysLog (front ++ newBlocks front bl c bl′) (g ++ (aCommit c ∷ []))
 unfolding LaysFrom
-commit-lays front bl bl′ h c nb z z′ some m s₁ s₄ size law one =
-    append front bl (newBlocks front bl c bl′) h (c ∷ []) nb z some m (newContents front bl c, newLines front bl c, bl′, refl, laid-new, z′)
+commit-lays front bl bl′ g c nb z z′ some m s₁ s₄ size law one =
+    append front bl (newBlocks front bl c bl′) g (aCommit c ∷ []) nb z some m (newContents front bl c, newLines front bl c, bl′, refl, laid-new, z′)
   where
     at : ℕ
     at = length front
@@ -107,7 +114,7 @@ commit-lays front bl bl′ h c nb z z′ some m s₁ s₄ size law one =
     now = bytesAt (front ++ newBlocks front bl c bl′)
 
     used : (v s : ℕ) → user old at k tables v s < at
-    used = user-low old at k tables some (tables-below front bl h nb some m)
+    used = user-low old at k tables some (tables-below front bl (commits g) nb some (log-lays (front ++ bl) g m))
 
     e : plans front bl c ≡ map (planOf now at k tables) (c .changes)
     e = plans-same old now at k tables (λ v s. unmoved front bl (newBlocks front bl c bl′) (user old at k tables v s) (used v s)) (c .changes)
@@ -135,9 +142,10 @@ allowed-from front bl h at k t [] i a = tt
 allowed-from front bl h at k t (c ∷ cs) i a = (allowed-lawful front bl h at k t i c (a .0), allowed-from front bl h at k t cs (suc i) (a .1))
 
 -- THE STATEMENT, with the rules as the document has them, of trees
-pub allowed-lays : (front bl bl′ : List Block) (h : History) (c : Commit) → T (all (λ b. not (isBlank b)) front)
-    → All (λ (b : Block). b ≡ blank) bl → All (λ (b : Block). b ≡ blank) bl′ → 1 ≤ length front → Lays (front ++ bl) h
-    → 1 ≤ c .seat → c .seat ≤ 4 → length (c .changes) ≡ 32 → AllowedFrom h 0 (c .changes) → 1 ≤ length (newLines front bl c)
-    → Lays (front ++ newBlocks front bl c bl′) (h ++ (c ∷ []))
-allowed-lays front bl bl′ h c nb z z′ some m s₁ s₄ size a one =
-    commit-lays front bl bl′ h c nb z z′ some m s₁ s₄ size (allowed-from front bl h (length front) 0 (trees-of front bl h nb z some m) (c .changes) 0 a) one
+pub allowed-lays : (front bl bl′ : List Block) (g : Log) (c : Commit) → T (all (λ b. not (isBlank b)) front)
+    → All (λ (b : Block). b ≡ blank) bl → All (λ (b : Block). b ≡ blank) bl′ → 1 ≤ length front → LaysLog (front ++ bl) g
+    → 1 ≤ c .seat → c .seat ≤ 4 → length (c .changes) ≡ 32 → AllowedFrom (commits g) 0 (c .changes) → 1 ≤ length (newLines front bl c)
+    → LaysLog (front ++ newBlocks front bl c bl′) (g ++ (aCommit c ∷ []))
+allowed-lays front bl bl′ g c nb z z′ some m s₁ s₄ size a one =
+    commit-lays front bl bl′ g c nb z z′ some m s₁ s₄ size
+    (allowed-from front bl (commits g) (length front) 0 (trees-of front bl (commits g) nb z some (log-lays (front ++ bl) g m)) (c .changes) 0 a) one

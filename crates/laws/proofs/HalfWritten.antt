@@ -10,16 +10,17 @@ use borrow.Author.Tests.{ne-eqb}
 use lib.ListN.{drop, getD, length, replicate, take}
 use lib.Seq.{drop-at, length-take-le, take-at}
 use Rattle.model.specs.Blocks.{Block, bytesAt}
-use Rattle.model.specs.Calls.{Out, Place, bothConditions, call, changeBy, changeCall, clearCall, conditionsIn, copyConditions, copySizeCondition, createBy, foundPlace, inStore, out, ownPlace, placeBy, readPlace, refusalOf, showPlace, sideIn, storeConditions, storeOnlyConditions, storeRefusal, storeSide, storeWith}
+use Rattle.model.specs.Calls.{Out, Place, bothConditions, call, changeBy, changeCall, clearCall, conditionsIn, copyConditions, copySizeCondition, createBy, foundPlace, inStore, markBy, markCall, out, ownPlace, panelPlace, placeBy, readPlace, refusalOf, releaseCall, showPlace, sideIn, storeConditions, storeOnlyConditions, storeRefusal, storeSide, storeWith}
 use Rattle.model.specs.Entry.{Entry, ownBytes}
 use Rattle.model.specs.Fitting.{fitsStore}
 use Rattle.model.specs.HalfWritten.{Bare, Meanwhile, Unfinished}
 use Rattle.model.specs.History.{Bytes, History, last, namer}
-use Rattle.model.specs.Machine.{Add, Answer, Call, Clears, Commits, Copy, Delete, Edit, Log, Move, Read, Revert, Show, Side, Status, Update, doing, done, entry, refused, withTail}
-use Rattle.model.specs.Pass.{tablesOf}
+use Rattle.model.specs.Log.{marks, panelRevision}
+use Rattle.model.specs.Machine.{Add, Answer, Call, Clears, Commits, Copy, Delete, Edit, Log, Move, Panel, Read, Release, Revert, Show, Side, Status, Update, doing, done, entry, refused, withTail}
+use Rattle.model.specs.Pass.{logAll, tablesOf}
 use Rattle.model.specs.Refusals.{Clear, Condition, _when_, conditions, firstOf, tailConditions}
-use Rattle.model.specs.Run.{asked}
-use Rattle.model.specs.Store.{bareIn, bareOf, blankFrom, blockCount, blocksOf, storeBlocks, storeHistory, tailOf, usedOf}
+use Rattle.model.specs.Run.{asked, ownConditions}
+use Rattle.model.specs.Store.{bareIn, bareOf, blankFrom, blockCount, blocksOf, storeBlocks, storeHistory, storeMarks, tailOf, usedOf}
 use Rattle.model.specs.Tail.{Stored, Tailed}
 use Rattle.model.specs.WorkCopy.{copyBytes, copyOk, entriesOf, seatOf}
 use Rattle.laws.proofs.Conditions.{clear, clear-first, none-holds, sized-so}
@@ -49,10 +50,11 @@ blind store d t (Show i) m = record { before = refl; lines = refl; does = refl }
 blind store d t (Status i) m = record { before = refl; lines = refl; does = refl }
 blind store d t (Log R i) m = record { before = refl; lines = refl; does = refl }
 blind store d t Clears m = absurd m
+blind store d t (Panel R i) m = record { before = refl; lines = refl; does = refl }
 
 -- what a call sees of a store, and of a copy with any seat and entries
 abbrev side : Bytes → ℕ → List Entry → Side
-side store k es = record { seat = k; blocks = blockCount store; used = usedOf store; tail = tailOf store; history = storeHistory store; entries = es }
+side store k es = record { seat = k; blocks = blockCount store; used = usedOf store; tail = tailOf store; history = storeHistory store; marks = storeMarks store; entries = es }
 
 -- ---- the bare store
 
@@ -126,14 +128,15 @@ module _ (store : Bytes) (e : firstOf (storeConditions store) ≡ none) where
   -- ---- what the other calls find in it
 
   same-side : (k : ℕ) (es : List Entry) → side bare k es ≡ withTail (side store k es) 0
-  same-side k es = λ i. record { seat = k; blocks = same-count i; used = same-used i; tail = untailed i; history = same-history i; entries = es }
+  same-side k es = λ i. record { seat = k; blocks = same-count i; used = same-used i; tail = untailed i; history = same-history i; marks = marks (logAll (same-blocks i)); entries = es }
 
-  -- the lines of read and log
+  -- the lines of read, log and a panel's reading
   store-lines : (c : Call) → Meanwhile c → firstOf (storeOnlyConditions store c) ≡ firstOf (storeOnlyConditions bare c)
   store-lines c m =
-      clear-first (storeConditions store) (conditions (storeSide store) c) taken
-      ∙ ap firstOf (sym (ap (λ (d : Side). conditions d c) (same-side 0 []) ∙ blind store (storeSide store) 0 c m .lines))
-      ∙ sym (clear-first (storeConditions bare) (conditions (storeSide bare) c) bare-taken)
+      let l = blind store (storeSide store) 0 c m in
+      clear-first (storeConditions store) (ownConditions (storeSide store) c) taken
+      ∙ ap firstOf (sym (ap (λ (d : Side). ownConditions d c) (same-side 0 []) ∙ ap₂ (λ (x y : List Condition). x ++ y) (l .before) (l .lines)))
+      ∙ sym (clear-first (storeConditions bare) (ownConditions (storeSide bare) c) bare-taken)
 
   -- the places
   found-same : (R i : ℕ) → foundPlace store R i ≡ foundPlace bare R i
@@ -144,6 +147,21 @@ module _ (store : Bytes) (e : firstOf (storeConditions store) ≡ none) where
   read-same : (R i : ℕ) → readPlace store R i ≡ readPlace bare R i
   unfolding readPlace storeRefusal
   read-same R i = ap₂ placeBy (store-lines (Read R i) tt) (found-same R i)
+
+  panel-same : (R i : ℕ) → panelPlace store R i ≡ panelPlace bare R i
+  unfolding panelPlace storeRefusal
+  panel-same R i =
+      ap₂ placeBy (store-lines (Panel R i) tt)
+      (found-same (panelRevision (storeMarks store) R) i ∙ ap (λ (bs : List Block). foundPlace bare (panelRevision (marks (logAll bs)) R) i) (sym same-blocks))
+
+  -- a release looks at the tail right after line 3
+  releases : (R seat stamp : ℕ) → (tailOf store ≡ 0 → ⊥) → releaseCall store R seat stamp ≡ record { says = refused 14; buffer = store }
+  unfolding markCall storeRefusal
+  releases R seat stamp z =
+      let c : Call = Release R seat stamp in
+      ap (λ (o : Option ℕ). markBy o store c)
+      (clear-first (storeConditions store) (ownConditions (storeSide store) c) taken
+      ∙ ap (λ (b : Bool). cond (not b) (some 14) (firstOf (conditions (storeSide store) c))) (ne-eqb (tailOf store) 0 z))
 
   module _ (copy : Bytes) where
     seen : sideIn bare copy ≡ withTail (sideIn store copy) 0
@@ -221,6 +239,7 @@ module _ (store : Bytes) (e : firstOf (storeConditions store) ≡ none) where
     works (Status i) m = look-one (Status i) (seatOf copy) (entriesOf copy) m (both-lines (Status i) m) (λ s p. demand-one s copy .does (Status i) tt p .says)
     works (Log R i) m = look-one (Log R i) 0 [] m (store-lines (Log R i) m) (λ s p. ap (λ (x : Out). x .says) (demand-one s copy .logs R i p))
     works Clears m = absurd m
+    works (Panel R i) m = look-one (Panel R i) 0 [] m (store-lines (Panel R i) m) (λ s p. ap (λ (x : Out). x .says) (demand-one s copy .panels R i p))
 
 -- THE STATEMENT
 pub half-written : Unfinished
@@ -228,8 +247,10 @@ half-written store copy e = record {
   bare = bare-like store e;
   works = works store e copy;
   reads = read-same store e;
+  panels = panel-same store e;
   shows = show-same store e copy;
   commits = commits store e copy;
+  releases = releases store e;
   clears = clears store e;
   unchanged = unchanged store e;
 }

@@ -12,14 +12,15 @@ use lib.ListN.{getD, getD-replicate, length, length-append, length-set, replicat
 use Rattle.block.specs.Lists.{All}
 use Rattle.model.specs.Entry.{Entry, added, changeFor, copied, deleted, empty, modified, normal, pending}
 use Rattle.model.specs.History.{Bytes, Change, Commit, History, add, change, changeOf, copy, delete, isBytes, last, made, namedAfter, namer, names, newest, nothing, present, sheet}
-use Rattle.model.specs.Invariant.{Base, FitsAt, Kept, Made, Right, Short, Sound, usedBy}
-use Rattle.model.specs.Machine.{Add, Answer, Call, Clears, ClearsCut, Commits, CommitsCut, Copy, Delete, Edit, Log, Move, Read, Revert, Show, Side, State, Status, Update, agreed, asIn, blocksFor, chosen, commitChanges, committing, copyOf, count, doing, edited, entry, fresh, newCommit, orElse, put, removed, revertedOf, sameNamer, settled, sideOf, updatedTo, withEntries, withEntry, withTail}
+use Rattle.model.specs.Invariant.{Base, FitsAt, Kept, Made, Right, Short, Sound}
+use Rattle.model.specs.Machine.{Add, Answer, Call, Clears, ClearsCut, Commits, CommitsCut, Copy, Delete, Edit, Log, Move, Panel, Read, Release, Revert, Show, Side, State, Status, Update, agreed, asIn, blocksFor, chosen, commitChanges, committing, copyOf, count, doing, edited, entry, fresh, marking, newCommit, orElse, put, removed, revertedOf, sameNamer, settled, sideOf, updatedTo, withEntries, withEntry, withTail}
+use Rattle.model.specs.Log.{Mark, released}
 use Rattle.model.specs.Refusals.{conditions, firstOf, noSheet, outOfDate, tooLate}
 use Rattle.model.specs.Rows.{rows, some-row, total}
 use Rattle.model.specs.Run.{AllValid, Turn, Typed, Valid, run, step, stepBy, ownConditions}
 use Rattle.laws.proofs.Conditions.{clear, own-none}
 use Rattle.laws.proofs.Rows.{and-false, and-nothing, cond-any, cond-same, length-rows, no-row, or-false, replicate-any, rows-any, rows-get, set-any}
-use Rattle.laws.proofs.Trees.{Small, Wide, base-grown, has-bytes, same-namer, sheet-made, sheet-zero, small-tree, sound-grown, unnamed, used-grown}
+use Rattle.laws.proofs.Trees.{Small, Wide, base-grown, has-bytes, same-namer, sheet-made, sheet-zero, small-tree, sound-grown, unnamed}
 
 -- ---- one entry
 
@@ -141,7 +142,7 @@ pub record KeptSide (d : Side) : Type 0 where
   pub sound : Sound (d .history)
   pub fits : (i : ℕ) → FitsAt (d .history) i (entry d i)
   pub wide : length (d .entries) ≡ 32
-  pub used : d .used ≡ usedBy (d .history)
+  pub used : last (d .history) < d .used
   pub room : d .used ≤ d .blocks
 
 kept-entries : (d : Side) (es : List Entry) → KeptSide d → length es ≡ length (d .entries) → ((i : ℕ) → FitsAt (d .history) i (getD es i empty)) → KeptSide (withEntries d es)
@@ -227,9 +228,7 @@ module _ (d : Side) (stamp mask : ℕ) (K : KeptSide d) (C : Committable d stamp
         (λ z. fits-settled (d .history) (newCommit d stamp mask) i _ (entry d i) (K .sound) (made-commit .wide) (changed i z) (right i z) (K .fits i))
         (λ z. fits-grown (d .history) (newCommit d stamp mask) i (entry d i) (K .fits i)));
     wide = length-rows _ 0 (d .entries) ∙ K .wide;
-    used =
-        ap (λ (n : ℕ). n + blocksFor (d .history) (commitChanges (d .history) mask (d .entries))) (K .used)
-        ∙ sym (used-grown (d .history) (newCommit d stamp mask));
+    used = omega (arith, K .used, length-append (d .history) (newCommit d stamp mask ∷ []));
     room = C .room;
   }
 
@@ -253,6 +252,10 @@ committable d stamp mask e lo hi ty =
 -- the tail is nothing to the rest
 kept-tail : (d : Side) (t : ℕ) → KeptSide d → KeptSide (withTail d t)
 kept-tail d t K = record { sound = K .sound; fits = K .fits; wide = K .wide; used = K .used; room = K .room }
+
+-- one block more, and no revision
+kept-mark : (d : Side) (m : Mark) → d .used + 1 ≤ d .blocks → KeptSide d → KeptSide (marking d m)
+kept-mark d m r K = record { sound = K .sound; fits = K .fits; wide = K .wide; used = omega (arith, K .used); room = r }
 
 -- a call that is not refused keeps the side
 pub kept-doing : (d : Side) (c : Call) → firstOf (conditions d c) ≡ none → 1 ≤ d .seat → d .seat ≤ 4 → Typed c → KeptSide d → KeptSide (doing d c .1)
@@ -279,6 +282,8 @@ kept-doing d (CommitsCut stamp mask n) e lo hi ty K =
     cond-any (λ (x : Answer × Side). KeptSide (x .1)) (leb (blocksFor (d .history) (commitChanges (d .history) mask (d .entries))) n)
     (λ t. kept-commit d stamp mask K (committable d stamp mask e lo hi ty)) (λ t. kept-tail d n K)
 kept-doing d (ClearsCut n) e lo hi ty K = cond-any (λ (x : Answer × Side). KeptSide (x .1)) (leb (d .tail) n) (λ t. kept-tail d 0 K) (λ t. kept-tail d (d .tail - n) K)
+kept-doing d (Release R seat stamp) e lo hi ty K = kept-mark d (released R seat stamp) (ltb-false (d .blocks) (d .used + 1) (clear (conditions d (Release R seat stamp)) e .1 .1 .0)) K
+kept-doing d (Panel R i) e lo hi ty K = K
 
 -- a call leaves the block count, and leaves the history or lengthens it by the commit that it asks for
 pub fits-still : (d : Side) (c : Call) → firstOf (conditions d c) ≡ none → (i : ℕ) (e : Entry) → FitsAt (d .history) i e → FitsAt (doing d c .1 .history) i e
@@ -299,6 +304,8 @@ fits-still d (CommitsCut stamp mask m) n j e f =
     cond-any (λ (x : Answer × Side). FitsAt (x .1 .history) j e) (leb (blocksFor (d .history) (commitChanges (d .history) mask (d .entries))) m)
     (λ t. fits-grown (d .history) (newCommit d stamp mask) j e f) (λ t. f)
 fits-still d (ClearsCut m) n j e f = cond-any (λ (x : Answer × Side). FitsAt (x .1 .history) j e) (leb (d .tail) m) (λ t. f) (λ t. f)
+fits-still d (Release R seat stamp) n j e f = f
+fits-still d (Panel R i) n j e f = f
 
 -- ---- a step, and a list of calls
 
@@ -338,7 +345,7 @@ kept-fresh N le = record {
       (λ i. replicate-any (FitsAt [] i) 32 i empty empty tt tt) (λ i. tt);
   four = refl;
   wide = λ k lt. ap length (getD-replicate 4 k (replicate 32 empty) [] lt);
-  used = refl;
+  used = omega arith;
   room = le;
 }
 

@@ -5,6 +5,7 @@ pub mod WorkCopy
 pub mod Parts
 pub mod All
 pub mod Puts
+pub mod Logs
 pub mod Acceptance
 pub mod Tables
 pub mod Append
@@ -27,6 +28,7 @@ pub mod Lasting
 pub mod Answers
 pub mod Places
 pub mod Cutting
+pub mod Marking
 pub mod Steps
 pub mod Accepted
 pub mod Demand2
@@ -41,4 +43,6 @@ pub mod SetBy
 pub mod HalfWritten
 pub mod Cuts
 pub mod CutCommits
+pub mod CutReleases
+pub mod CutRule
 pub mod PowerCuts

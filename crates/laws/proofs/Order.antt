@@ -11,12 +11,13 @@ use lib.Dec.{T, eqb}
 use lib.ListN.{getD, length, length-map, replicate}
 use Rattle.block.proofs.Says.{and-true}
 use Rattle.block.specs.Lists.{All, all, same}
-use Rattle.model.specs.Blocks.{Block, Line, adds, blank, bytesAt, changes, commit, content, copies, deletes, label}
+use Rattle.model.specs.Blocks.{Block, Line, adds, blank, bytesAt, changes, commit, content, copies, deletes, label, mark}
 use Rattle.model.specs.History.{Bytes, Change, Commit, History, add, change, copy, delete, isBytes, last, nothing, sheet}
 use Rattle.model.specs.Invariant.{Base, Made}
 use Rattle.model.specs.Layout.{Lays, Table, user}
+use Rattle.model.specs.Log.{Mark}
 use Rattle.model.specs.Order.{InOrder, RisingFrom, commitBlocks, contentsAfter, linesAfter, ownBlocks, planAfter, upFrom}
-use Rattle.model.specs.Pass.{grown, isBlank, laid, ok, okFrom, tablesAfter, tablesOf}
+use Rattle.model.specs.Pass.{grown, isBlank, laid, ok, okFrom, stands, tablesAfter, tablesOf}
 use Rattle.model.specs.Store.{blanks, front}
 use Rattle.model.specs.Writing.{Plan, contentsFor, fresh, linesFor, newBlocks, planCopy, planOf, plans, shared, skip}
 use Rattle.laws.proofs.Acceptance.{lays-accepted}
@@ -100,6 +101,9 @@ after-append look at k tables (content r b ∷ used) bl new t n =
 after-append look at k tables (commit r seat stamp ls ∷ used) bl new t n =
     let p = and-true (eqb r (length tables)) (laid look at k tables seat ls && okFrom look (suc (at + k)) 0 (grown tables ls) (used ++ bl)) t in
     after-append look (suc (at + k)) 0 (grown tables ls) used bl new (and-true (laid look at k tables seat ls) (okFrom look (suc (at + k)) 0 (grown tables ls) (used ++ bl)) (p .1) .1) n
+after-append look at k tables (mark m ∷ used) bl new t n =
+    let p = and-true (eqb k 0) (stands tables m && okFrom look (suc at) 0 tables (used ++ bl)) t in
+    after-append look (suc at) 0 tables used bl new (and-true (stands tables m) (okFrom look (suc at) 0 tables (used ++ bl)) (p .1) .1) n
 after-append look at k tables (blank ∷ used) bl new t n = absurd n
 
 tables-append : (used bl new : List Block) (h : History) → T (all (λ b. not (isBlank b)) used) → 1 ≤ length used → Lays (used ++ bl) h
@@ -110,12 +114,18 @@ tables-append (label ∷ used) bl new h n low m =
     after-append (bytesAt (label ∷ (used ++ bl))) 1 0 (replicate 32 0 ∷ []) used bl new (lays-accepted (label ∷ (used ++ bl)) h m .0) n
 tables-append (content r b ∷ used) bl new h n low m = absurd (lays-accepted (content r b ∷ (used ++ bl)) h m .0)
 tables-append (commit r seat stamp ls ∷ used) bl new h n low m = absurd (lays-accepted (commit r seat stamp ls ∷ (used ++ bl)) h m .0)
+tables-append (mark q ∷ used) bl new h n low m = absurd (lays-accepted (mark q ∷ (used ++ bl)) h m .0)
 tables-append (blank ∷ used) bl new h n low m = absurd n
 
 after-contents : (r : ℕ) (cs : List (List ℕ)) (ts : List Table) (bs : List Block) → tablesAfter ts (map (content r) cs ++ bs) ≡ tablesAfter ts bs
 unfolding tablesAfter
 after-contents r [] ts bs = refl
 after-contents r (b ∷ cs) ts bs = after-contents r cs ts bs
+
+-- a mark moves no tree
+pub tables-mark : (bs : List Block) (h : History) → Lays bs h → (m : Mark) → tablesOf (front bs ++ (mark m ∷ [])) ≡ tablesOf (front bs)
+unfolding tablesAfter
+tables-mark bs h L m = tables-append (front bs) (blanks bs) (mark m ∷ []) h (no-blank bs) (some-used bs h L) (lays-split bs h L)
 
 -- ---- a commit on blocks that lay out a history
 

@@ -12,13 +12,14 @@ use lib.ListN.{List·getD-eq-default, List·getD-map, drop, getD, length, length
 use lib.Seq.{drop-append-add, drop-append-le, take-append-le, take-append-seam}
 use Rattle.block.specs.Check.{checksOf}
 use Rattle.block.specs.Lists.{All}
-use Rattle.model.specs.Blocks.{Block, FitsBlock, blank, bytesAt, commit, content, fieldsOf, held, label}
+use Rattle.model.specs.Blocks.{Block, FitsBlock, blank, bytesAt, commit, content, fieldsOf, held, label, mark}
 use Rattle.model.specs.Calls.{blockPlace, heard, inCopy, inStore, storeConditions}
 use Rattle.model.specs.Codec.{encode, joined, padded}
 use Rattle.model.specs.Entry.{Entry, added, copied, deleted, empty, normal, ownBytes}
 use Rattle.model.specs.History.{Bytes, History, Tree, last, sheet, tree}
 use Rattle.model.specs.Layout.{Lays, Table}
 use Rattle.model.specs.Machine.{bytes}
+use Rattle.model.specs.Log.{released}
 use Rattle.model.specs.Pass.{tablesOf}
 use Rattle.model.specs.Refusals.{firstOf}
 use Rattle.model.specs.Store.{blockCount, blockUsed, blocksOf, front, storeBlocks, storeHistory, tailOf, usedOf}
@@ -59,6 +60,7 @@ block-body (content r x) f rest =
     ap (λ (l : List ℕ). take (length x) (drop 16 (l ++ checksOf (padded (fieldsOf (content r x)))) ++ rest)) (s .1)
     ∙ seam x (s .0) (checksOf (padded (fieldsOf (content r x)))) rest
 block-body (commit r seat stamp ls) f rest = refl
+block-body (mark (released r seat stamp)) f rest = refl
 block-body blank f rest = refl
 
 entry-body : (state base source revision : ℕ) (x : List ℕ) → length (entryBytes state base source revision x) ≤ 508 → (rest : List ℕ)
@@ -123,6 +125,7 @@ held-short : (b : Block) → FitsBlock b → length (held b) ≤ 480
 held-short label f = lit≤ tt
 held-short (content r x) f = f .1
 held-short (commit r seat stamp ls) f = lit≤ tt
+held-short (mark m) f = lit≤ tt
 held-short blank f = lit≤ tt
 
 -- what stands in the first bytes does not hang on what follows them

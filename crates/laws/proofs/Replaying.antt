@@ -42,6 +42,7 @@ module _ (b : Buffers) (A : AllAccepted b) where
         many = V′ .many;
         blocks = refl;
         store = V′ .stored;
+        marked = V′ .marked;
         four = A .four;
         copies = λ k h.
             subst (HoldsCopy (getD (b .copies) k []) (suc k)) (sym (mine k h))

@@ -1,45 +1,49 @@
 -- One call: on buffers that show a state it answers as the machine does, and leaves buffers that show the machine's next state.
 -- Assumes nothing.
-use Prim.Native.Nat.{_*_, _+_, _-_, _<_, _^_, _≤_, suc, ℕ}
-use mathlib.Core.Bool.{Bool, _||_, cond, false, not, true}
+use Prim.Native.Nat.{_*_, _+_, _-_, _<_, _^_, _≤_, suc, zero, ℕ}
+use mathlib.Core.Bool.{Bool, _&&_, _||_, cond, false, not, true}
 use mathlib.Core.List.{List, [], _++_, _∷_, map}
 use mathlib.Core.Logic.{inl, inr}
 use mathlib.Core.Option.{Option, none, some}
 use mathlib.Core.Path.{_∙_, _≡_, ap, ap₂, refl, subst, sym}
 use native.Mathlib.Nat.{zero-add}
 use native.Mathlib.Omega.{arith}
-use borrow.Author.Tests.{eq-eqb, eqb-true, le-leb, leb-false, ltb-false, not-false}
+use borrow.Author.Tests.{eq-eqb, eqb-true, le-leb, leb-false, leb-true, ltb-false, not-false}
 use lib.Dec.{eqb, leb}
 use lib.ListN.{getD, length, length-set, set, take}
 use lib.Seq.{getD-set-other, getD-set-same, set-getD}
-use Rattle.block.proofs.Says.{eq-or, is-true}
+use Rattle.block.proofs.Says.{and-true, eq-or, is-true}
 use Rattle.block.specs.Lists.{All}
 use Rattle.block.specs.Write.{written}
 use Rattle.model.specs.Blocks.{Block, fieldsOf}
-use Rattle.model.specs.Calls.{Buffers, Created, Out, afterTurn, answerBy, blockPlace, call, changeBy, changeCall, clearCall, clearCutCall, clearedBy, commitCutCall, commitWrites, copyConditions, createBy, foundPlace, heard, logCall, out, ownPlace, placeBy, readCall, readPlace, refusalOf, showCall, showPlace, sideIn, statusCall, stoppedBy, storeConditions, storeRefusal, storeSide, storeWith, turnOn, writtenFrom}
+use Rattle.model.specs.Calls.{Buffers, Created, Out, afterTurn, answerBy, beside, blockPlace, call, changeBy, changeCall, clearCall, clearCutCall, clearedBy, commitCutCall, commitWrites, copyConditions, createBy, foundPlace, heard, logCall, markBy, markCall, out, ownPlace, panelCall, panelPlace, placeBy, readCall, readPlace, refusalOf, showCall, showPlace, sideIn, statusCall, stoppedBy, storeConditions, storeRefusal, storeSide, storeWith, turnOn, writtenFrom}
 use Rattle.model.specs.Codec.{joined}
 use Rattle.model.specs.Entry.{Entry, added, copied, deleted, empty, normal, ownBytes}
 use Rattle.model.specs.Fitting.{fitsEntry, fitsStore, has}
 use Rattle.model.specs.History.{Bytes, Commit, History, last, namer, newest, present, sheet}
 use Rattle.model.specs.Invariant.{Base, FitsAt, Kept}
-use Rattle.model.specs.Machine.{Add, Answer, Call, Clears, ClearsCut, Commits, CommitsCut, Copy, Delete, Edit, Log, Move, Read, Revert, Show, Side, State, Status, Update, asBytes, blocksFor, commitChanges, committing, doing, done, entry, newCommit, put, revision, shown, shownNamer, sideOf, stopped, withTail}
-use Rattle.model.specs.Refusals.{Clear, _when_, conditions, firstOf, noSheet, tailConditions, tooLate}
+use Rattle.model.specs.Machine.{Add, Answer, Call, Clears, ClearsCut, Commits, CommitsCut, Copy, Delete, Edit, Log, Move, Panel, Read, Release, Revert, Show, Side, State, Status, Update, asBytes, blocksFor, commitChanges, committing, doing, done, entry, marking, newCommit, panelSheet, put, revision, shown, shownNamer, sideOf, stopped, withTail}
+use Rattle.model.specs.Refusals.{Clear, conditions, firstOf, noSeat, noSheet, tailConditions, tooLate}
+use Rattle.model.specs.Log.{Mark, Placed, among, commits, marks, panelRevision, released, releases}
+use Rattle.model.specs.Pass.{logAll}
 use Rattle.model.specs.Rows.{some-row}
 use Rattle.model.specs.Run.{Turn, Typed, Valid, asked, sideBy, sideStep, step, stepBy, ownConditions}
 use Rattle.model.specs.Shows.{Seen, Shows}
 use Rattle.model.specs.Tail.{Stored, Tailed}
-use Rattle.model.specs.Store.{bareOf, blankFrom, blanks, blockCount, blockUsed, blocksOf, front, storeBlocks, storeHistory, tailOf, usedOf}
+use Rattle.model.specs.Store.{bareOf, blankFrom, blanks, blockCount, blockUsed, blocksOf, front, storeBlocks, storeHistory, storeMarks, tailOf, usedOf}
 use Rattle.model.specs.WorkCopy.{FitsCopyBlock, HoldsCopy, copyBytes, copyOk, entriesOf, entryBlock}
-use Rattle.model.specs.Writing.{newBlocks, newContents, withCommit}
+use Rattle.model.specs.Writing.{newBlocks, newContents, withCommit, withMark}
 use Rattle.laws.proofs.Conditions.{clear, clear-first, clear-mid, own-none}
-use Rattle.laws.proofs.Cutting.{cleared-to, content-count, cut-bare, cut-stored, write-count}
+use Rattle.laws.proofs.Cutting.{cleared-kin, content-count, cut-bare, cut-stored, write-count}
+use Rattle.laws.proofs.Holding.{history-logged, holds-accepted}
 use Rattle.laws.proofs.Invariant.{Committable, KeptSide, committable, kept-doing, kept-side, made-commit}
+use Rattle.laws.proofs.Logs.{greatest-low, marks-commit, marks-mark}
+use Rattle.laws.proofs.Marking.{Releasable, log-mark, stored-mark}
 use Rattle.laws.proofs.Places.{heard-block, heard-own}
-use Rattle.laws.proofs.Rows.{cond-any, or-false}
-use Rattle.laws.proofs.Store.{bare-held, clear-held, count-held, history-held, stored-tailed, tail-held, tailed-none, used-held}
-use Rattle.laws.proofs.Trees.{used-low}
+use Rattle.laws.proofs.Rows.{cond-any, is-T, or-false}
+use Rattle.laws.proofs.Store.{bare-held, clear-held, count-held, history-held, log-held, log-stored, stored-tailed, tail-held, tailed-none, used-held}
 use Rattle.laws.proofs.WorkCopy.{copy-bytes, holds-copy}
-use Rattle.laws.proofs.Writing.{stored-commit}
+use Rattle.laws.proofs.Writing.{log-commit, stored-commit}
 
 -- ---- what fits passes the test, and has a layout
 
@@ -82,9 +86,9 @@ fits-pieces h k (e ∷ es) n f = (
 pub laid-copy : (d : Side) → KeptSide d → d .blocks ≤ 4_096 → 1 ≤ d .seat → d .seat ≤ 4 → HoldsCopy (copyBytes (d .seat) (d .entries)) (d .seat) (d .entries)
 laid-copy d K n lo hi =
     copy-bytes (d .seat) (d .entries) (K .wide) lo hi
-    (fits-pieces (d .history) 0 (d .entries) (omega (arith, used-low (d .history), K .used, K .room)) (λ i. rw zero-add (K .fits i)))
+    (fits-pieces (d .history) 0 (d .entries) (omega (arith, K .used, K .room)) (λ i. rw zero-add (K .fits i)))
 
--- all calls but clearing, which is on the store alone
+-- all calls but clearing and a release, which are on the store alone, and those that may stop
 abbrev Alters : Call → Type 0
 Alters (Add i x) = Unit {0}
 Alters (Edit i x) = Unit {0}
@@ -101,11 +105,17 @@ Alters (Log R i) = Unit {0}
 Alters Clears = ⊥
 Alters (CommitsCut stamp mask n) = ⊥
 Alters (ClearsCut n) = ⊥
+Alters (Release R seat stamp) = ⊥
+Alters (Panel R i) = Unit {0}
+
+-- the store shows the side: the layout of its history, with its marks
+abbrev pub Shown : ℕ → Bytes → Side → Type 0
+Shown N store d = Tailed N store (d .history) (d .used) (d .tail) × (storeMarks store ≡ d .marks)
 
 -- the store that a call leaves
-stored-doing : (N : ℕ) (store : Bytes) (d : Side) (c : Call) → N ≤ 4_096 → Alters c → d .blocks ≡ N → Tailed N store (d .history) (d .used) (d .tail) → KeptSide d
+stored-doing : (N : ℕ) (store : Bytes) (d : Side) (c : Call) → N ≤ 4_096 → Alters c → d .blocks ≡ N → Shown N store d → KeptSide d
     → firstOf (ownConditions d c) ≡ none → 1 ≤ d .seat → d .seat ≤ 4 → Typed c
-    → Tailed N (storeWith store (asked d c)) (doing d c .1 .history) (doing d c .1 .used) (doing d c .1 .tail)
+    → Shown N (storeWith store (asked d c)) (doing d c .1)
 stored-doing N store d (Add i x) many n b S K e lo hi ty = S
 stored-doing N store d (Edit i x) many n b S K e lo hi ty = S
 stored-doing N store d (Delete i) many n b S K e lo hi ty = S
@@ -116,13 +126,21 @@ stored-doing N store d (Commits stamp mask) many n b S K e lo hi ty =
     let C = committable d stamp mask (q .0) lo hi ty in
     let c : Commit = newCommit d stamp mask in
     let z : d .tail ≡ 0 = eqb-true (d .tail) 0 (not-false (eqb (d .tail) 0) (q .1 .0)) in
-    let bs : storeBlocks store ≡ blocksOf N (S .bare) = ap₂ blocksOf (count-held N store (d .history) (d .used) (d .tail) S) (bare-held N store (d .history) (d .used) (d .tail) S) in
+    let X = S .0 in
+    let bs : List Block = blocksOf N (X .bare) in
+    let is : storeBlocks store ≡ bs = ap₂ blocksOf (count-held N store (d .history) (d .used) (d .tail) X) (bare-held N store (d .history) (d .used) (d .tail) X) in
     let h′ : History = d .history ++ (c ∷ []) in
     let u′ : ℕ = d .used + blocksFor (d .history) (c .changes) in
-    subst (λ (t : ℕ). Tailed N (joined fieldsOf (withCommit (storeBlocks store) c)) h′ u′ t) (sym z)
-    (subst (λ (x : List Block). Tailed N (joined fieldsOf (withCommit x c)) h′ u′ 0) (sym bs)
-    (stored-tailed N (joined fieldsOf (withCommit (blocksOf N (S .bare)) c)) h′ u′
-    (stored-commit N (S .bare) (d .history) (d .used) c many (omega (arith, used-low (d .history), K .used, K .room)) (S .stored) (made-commit d stamp mask K C) (omega (arith, C .room)))))
+    let short : last (d .history) < 65_535 = omega (arith, K .used, K .room) in
+    let M = made-commit d stamp mask K C in
+    let room : d .used + blocksFor (d .history) (c .changes) ≤ N = omega (arith, C .room) in
+    let new : Bytes = joined fieldsOf (withCommit bs c) in
+    let S′ : Stored N new h′ u′ = stored-commit N (X .bare) (d .history) (d .used) c many short (X .stored) M room in
+    let marked : storeMarks new ≡ d .marks =
+    ap marks (log-stored N new h′ u′ S′ ∙ log-commit N (X .bare) (d .history) (d .used) c many short (X .stored) M room) ∙ marks-commit (logAll bs) c
+    ∙ ap marks (sym (log-held N store (d .history) (d .used) (d .tail) X)) ∙ S .1 in
+    subst (λ (x : List Block). Shown N (joined fieldsOf (withCommit x c)) (committing d stamp mask)) (sym is)
+    (subst (λ (t : ℕ). Tailed N new h′ u′ t) (sym z) (stored-tailed N new h′ u′ S′), marked)
 stored-doing N store d (Update mask R) many n b S K e lo hi ty = S
 stored-doing N store d (Revert mask) many n b S K e lo hi ty = S
 stored-doing N store d (Read R i) many n b S K e lo hi ty = S
@@ -132,6 +150,8 @@ stored-doing N store d (Log R i) many n b S K e lo hi ty = S
 stored-doing N store d Clears many n b S K e lo hi ty = absurd n
 stored-doing N store d (CommitsCut stamp mask m) many n b S K e lo hi ty = absurd n
 stored-doing N store d (ClearsCut m) many n b S K e lo hi ty = absurd n
+stored-doing N store d (Release R seat stamp) many n b S K e lo hi ty = absurd n
+stored-doing N store d (Panel R i) many n b S K e lo hi ty = S
 
 pub same-seat : (d : Side) (c : Call) → (doing d c .1 .seat ≡ d .seat) × (doing d c .1 .blocks ≡ d .blocks)
 same-seat d (Add i x) = (refl, refl)
@@ -150,6 +170,12 @@ same-seat d Clears = (refl, refl)
 same-seat d (CommitsCut stamp mask n) =
     cond-any (λ (x : Answer × Side). (x .1 .seat ≡ d .seat) × (x .1 .blocks ≡ d .blocks)) (leb (blocksFor (d .history) (commitChanges (d .history) mask (d .entries))) n) (λ t. (refl, refl)) (λ t. (refl, refl))
 same-seat d (ClearsCut n) = cond-any (λ (x : Answer × Side). (x .1 .seat ≡ d .seat) × (x .1 .blocks ≡ d .blocks)) (leb (d .tail) n) (λ t. (refl, refl)) (λ t. (refl, refl))
+same-seat d (Release R seat stamp) = (refl, refl)
+same-seat d (Panel R i) = (refl, refl)
+
+-- what a call on the store alone sees of a side
+abbrev alone : Side → Side
+alone d = record { seat = 0; blocks = d .blocks; used = d .used; tail = d .tail; history = d .history; marks = d .marks; entries = [] }
 
 -- ---- one call on a store and a seat's working copy
 
@@ -167,7 +193,15 @@ module _ (N : ℕ) (store copy : Bytes) (d : Side) (E : Seen N store copy d) (K 
       let u : usedOf store ≡ d .used = used-held N store (d .history) (d .used) (d .tail) (E .stored) in
       let t : tailOf store ≡ d .tail = tail-held N store (d .history) (d .used) (d .tail) (E .stored) in
       let n : blockCount store ≡ d .blocks = counted ∙ sym (E .blocks) in
-      λ i. record { seat = C .2 i; blocks = n i; used = u i; tail = t i; history = same-history i; entries = C .3 i }
+      λ i. record { seat = C .2 i; blocks = n i; used = u i; tail = t i; history = same-history i; marks = E .marked i; entries = C .3 i }
+
+  same-alone : storeSide store ≡ alone d
+  same-alone = λ i. alone (same-side i)
+
+  -- a store that is the same without its tail has the same marks
+  same-marks : (other : Bytes) (t : ℕ) (Y : Tailed N other (d .history) (d .used) t) → Y .bare ≡ E .stored .bare → storeMarks other ≡ d .marks
+  same-marks other t Y e =
+      ap marks (log-held N other (d .history) (d .used) t Y ∙ ap (λ (l : Bytes). logAll (blocksOf N l)) e ∙ sym (log-held N store (d .history) (d .used) (d .tail) (E .stored))) ∙ E .marked
 
   -- no line from 1 to 6 holds
   pub store-clear : Clear (storeConditions store)
@@ -187,17 +221,10 @@ module _ (N : ℕ) (store copy : Bytes) (d : Side) (E : Seen N store copy d) (K 
       ∙ clear-mid (tailConditions (sideIn store copy) c) (copyConditions store copy) (conditions (sideIn store copy) c) copy-clear
       ∙ ap (λ (x : Side). firstOf (ownConditions x c)) same-side
 
-  read-refusal : (R i : ℕ) → storeRefusal store (Read R i) ≡ firstOf (conditions d (Read R i))
+  pub store-refusal : (c : Call) → storeRefusal store c ≡ firstOf (ownConditions (alone d) c)
   unfolding storeRefusal
-  read-refusal R i =
-      clear-first (storeConditions store) (conditions (storeSide store) (Read R i)) store-clear
-      ∙ ap (λ (h : History). firstOf (7 when (noSheet i || tooLate h R) ∷ 8 when not (present (sheet h R i)) ∷ [])) same-history
-
-  log-refusal : (R i : ℕ) → storeRefusal store (Log R i) ≡ firstOf (conditions d (Log R i))
-  unfolding storeRefusal
-  log-refusal R i =
-      clear-first (storeConditions store) (conditions (storeSide store) (Log R i)) store-clear
-      ∙ ap (λ (h : History). firstOf (7 when (noSheet i || (eqb R 0 || tooLate h R)) ∷ [])) same-history
+  store-refusal c =
+      clear-first (storeConditions store) (ownConditions (storeSide store) c) store-clear ∙ ap (λ (x : Side). firstOf (ownConditions x c)) same-alone
 
   -- what the buffers hold afterwards
   abbrev Agrees : Out → Answer × Side → Type 0
@@ -211,6 +238,7 @@ module _ (N : ℕ) (store copy : Bytes) (d : Side) (E : Seen N store copy d) (K 
       let d′ : Side = doing d c .1 in
       let D : KeptSide d′ = kept-doing d c (own-none d c e .0) lo hi ty K in
       let m = same-seat d c in
+      let shown = stored-doing N store d c (E .many) al (E .blocks) (E .stored, E .marked) K e lo hi ty in
       let top : d′ .blocks ≤ 4_096 = omega (arith, m .1, E .blocks, E .many) in
       let w : Agrees (out (doing d c .0) (storeWith store (asked d c)) (copyBytes (d′ .seat) (d′ .entries))) (doing d c) = (
         refl,
@@ -218,7 +246,8 @@ module _ (N : ℕ) (store copy : Bytes) (d : Side) (E : Seen N store copy d) (K 
           few = E .few;
           many = E .many;
           blocks = m .1 ∙ E .blocks;
-          stored = stored-doing N store d c (E .many) al (E .blocks) (E .stored) K e lo hi ty;
+          stored = shown .0;
+          marked = shown .1;
           copied = laid-copy d′ D top (omega (arith, m .0)) (omega (arith, m .0));
         },
       ) in
@@ -231,6 +260,9 @@ module _ (N : ℕ) (store copy : Bytes) (d : Side) (E : Seen N store copy d) (K 
 
   -- ---- clearing
 
+  all-cleared : Tailed N (E .stored .bare) (d .history) (d .used) 0
+  all-cleared = stored-tailed N (E .stored .bare) (d .history) (d .used) (E .stored .stored)
+
   clear-one : Agrees (call store copy Clears) (sideStep d Clears)
   unfolding clearCall storeRefusal
   clear-one =
@@ -241,7 +273,8 @@ module _ (N : ℕ) (store copy : Bytes) (d : Side) (E : Seen N store copy d) (K 
           few = E .few;
           many = E .many;
           blocks = E .blocks;
-          stored = stored-tailed N (E .stored .bare) (d .history) (d .used) (E .stored .stored);
+          stored = all-cleared;
+          marked = same-marks (E .stored .bare) 0 all-cleared (tailed-none N (E .stored .bare) (d .history) (d .used) all-cleared);
           copied = E .copied;
         },
       )
@@ -259,6 +292,12 @@ module _ (N : ℕ) (store copy : Bytes) (d : Side) (E : Seen N store copy d) (K 
       (λ i. clearedBy (q i) store n) ∙ (λ i. cond {A = Created} (leb (t i) n) (record { says = done; buffer = b i }) (record { says = stopped; buffer = blankFrom (u i + t i - n) store })) in
       subst (λ (x : Created). Agrees (out (x .says) (x .buffer) copy) (sideStep d (ClearsCut n))) (sym is) (two (leb (d .tail) n) refl)
     where
+      place : leb (d .tail) n ≡ false → d .used + (d .tail - n) ≡ d .used + d .tail - n
+      place e = omega (arith, leb-false (d .tail) n e)
+
+      kin : leb (d .tail) n ≡ false → (Y : Tailed N (blankFrom (d .used + (d .tail - n)) store) (d .history) (d .used) (d .tail - n)) × (Y .bare ≡ E .stored .bare)
+      kin e = cleared-kin N store (d .history) (d .used) (d .tail) (E .stored) (d .tail - n) (omega arith)
+
       two : (t : Bool) → leb (d .tail) n ≡ t
           → Agrees (let x = cond {A = Created} t (record { says = done; buffer = E .stored .bare }) (record { says = stopped; buffer = blankFrom (d .used + d .tail - n) store }) in out (x .says) (x .buffer) copy)
           (cond t (done, withTail d 0) (stopped, withTail d (d .tail - n)))
@@ -268,7 +307,8 @@ module _ (N : ℕ) (store copy : Bytes) (d : Side) (E : Seen N store copy d) (K 
           few = E .few;
           many = E .many;
           blocks = E .blocks;
-          stored = stored-tailed N (E .stored .bare) (d .history) (d .used) (E .stored .stored);
+          stored = all-cleared;
+          marked = same-marks (E .stored .bare) 0 all-cleared (tailed-none N (E .stored .bare) (d .history) (d .used) all-cleared);
           copied = E .copied;
         },
       )
@@ -278,13 +318,26 @@ module _ (N : ℕ) (store copy : Bytes) (d : Side) (E : Seen N store copy d) (K 
           few = E .few;
           many = E .many;
           blocks = E .blocks;
-          stored =
-              (let w = leb-false (d .tail) n e in
-              let k : d .used + (d .tail - n) ≡ d .used + d .tail - n = omega arith in
-              subst (λ (p : ℕ). Tailed N (blankFrom p store) (d .history) (d .used) (d .tail - n)) k (cleared-to N store (d .history) (d .used) (d .tail) (E .stored) (d .tail - n) (omega arith)));
+          stored = subst (λ (p : ℕ). Tailed N (blankFrom p store) (d .history) (d .used) (d .tail - n)) (place e) (kin e .0);
+          marked = ap (λ (p : ℕ). storeMarks (blankFrom p store)) (sym (place e)) ∙ same-marks (blankFrom (d .used + (d .tail - n)) store) (d .tail - n) (kin e .0) (kin e .1);
           copied = E .copied;
         },
       )
+
+  -- ---- a store without a tail
+
+  module _ (z : d .tail ≡ 0) where
+    untailed : Tailed N store (d .history) (d .used) 0
+    untailed = subst (λ (t : ℕ). Tailed N store (d .history) (d .used) t) z (E .stored)
+
+    bare-now : bareOf store ≡ store
+    bare-now = bare-held N store (d .history) (d .used) 0 untailed ∙ tailed-none N store (d .history) (d .used) untailed
+
+    blocks-now : storeBlocks store ≡ blocksOf N store
+    blocks-now = ap₂ blocksOf counted bare-now
+
+    pub stored-now : Stored N store (d .history) (d .used)
+    stored-now = subst (λ (l : Bytes). Stored N l (d .history) (d .used)) (tailed-none N store (d .history) (d .used) untailed) (untailed .stored)
 
   -- ---- a commit that stops after n writes
 
@@ -292,20 +345,14 @@ module _ (N : ℕ) (store copy : Bytes) (d : Side) (E : Seen N store copy d) (K 
     abbrev c : Commit
     c = newCommit d stamp mask
 
-    none-there : d .tail ≡ 0
+    pub none-there : d .tail ≡ 0
     none-there = eqb-true (d .tail) 0 (not-false (eqb (d .tail) 0) (own-none d (CommitsCut stamp mask n) e .1 .0))
-
-    X : Tailed N store (d .history) (d .used) 0
-    X = subst (λ (t : ℕ). Tailed N store (d .history) (d .used) t) none-there (E .stored)
-
-    pub stored-now : Stored N store (d .history) (d .used)
-    stored-now = subst (λ (l : Bytes). Stored N l (d .history) (d .used)) (tailed-none N store (d .history) (d .used) X) (X .stored)
 
     C : Committable d stamp mask
     C = committable d stamp mask (own-none d (CommitsCut stamp mask n) e .0) lo hi ty
 
     short : last (d .history) < 65_535
-    short = omega (arith, used-low (d .history), K .used, K .room, E .blocks, E .many)
+    short = omega (arith, K .used, K .room, E .blocks, E .many)
 
     room : d .used + blocksFor (d .history) (c .changes) ≤ N
     room = omega (arith, C .room, E .blocks)
@@ -315,11 +362,10 @@ module _ (N : ℕ) (store copy : Bytes) (d : Side) (E : Seen N store copy d) (K 
 
     pub writes-are : commitWrites store copy stamp mask ≡ writes
     writes-are =
-        let b : bareOf store ≡ store = bare-held N store (d .history) (d .used) 0 X ∙ tailed-none N store (d .history) (d .used) X in
-        ap₂ (λ (x : List Block) (y : Side). newBlocks (front x) (blanks x) (newCommit y stamp mask) []) (ap₂ blocksOf counted b) same-side
+        ap₂ (λ (x : List Block) (y : Side). newBlocks (front x) (blanks x) (newCommit y stamp mask) []) (blocks-now none-there) same-side
 
     pub count-is : length (commitWrites store copy stamp mask) ≡ blocksFor (d .history) (c .changes)
-    count-is = ap length writes-are ∙ write-count N store (d .history) (d .used) c (E .many) short stored-now (made-commit d stamp mask K C) room
+    count-is = ap length writes-are ∙ write-count N store (d .history) (d .used) c (E .many) short (stored-now none-there) (made-commit d stamp mask K C) room
 
     pub part-is : writtenFrom store (take n (commitWrites store copy stamp mask)) ≡ written (512 * d .used) (joined fieldsOf (take n writes)) store
     part-is =
@@ -331,24 +377,28 @@ module _ (N : ℕ) (store copy : Bytes) (d : Side) (E : Seen N store copy d) (K 
     cut-kin l =
         let M = made-commit d stamp mask K C in
         let g : n ≤ length (newContents (front (blocksOf N store)) (blanks (blocksOf N store)) c) =
-        omega (arith, content-count N store (d .history) (d .used) c (E .many) short stored-now M room) in
+        omega (arith, content-count N store (d .history) (d .used) c (E .many) short (stored-now none-there) M room) in
         subst (λ (s : Bytes). (Y : Tailed N s (d .history) (d .used) n) × (Y .bare ≡ store)) (sym part-is)
-        (cut-stored N store (d .history) (d .used) c (E .many) short stored-now M room n g, cut-bare N store (d .history) (d .used) c (E .many) short stored-now M room n g)
+        (cut-stored N store (d .history) (d .used) c (E .many) short (stored-now none-there) M room n g, cut-bare N store (d .history) (d .used) c (E .many) short (stored-now none-there) M room n g)
 
     cut-two : (t : Bool) → leb (blocksFor (d .history) (c .changes)) n ≡ t
         → Agrees (cond t (changeBy none store copy (Commits stamp mask)) (out stopped (writtenFrom store (take n (commitWrites store copy stamp mask))) copy))
         (cond t (revision (suc (last (d .history))), committing d stamp mask) (stopped, withTail d n))
     cut-two true q = change-by (Commits stamp mask) none tt ty e
-    cut-two false q = (
-      refl,
-      record {
-        few = E .few;
-        many = E .many;
-        blocks = E .blocks;
-        stored = cut-kin (leb-false (blocksFor (d .history) (c .changes)) n q) .0;
-        copied = E .copied;
-      },
-    )
+    cut-two false q =
+        let Y = cut-kin (leb-false (blocksFor (d .history) (c .changes)) n q) in (
+          refl,
+          record {
+            few = E .few;
+            many = E .many;
+            blocks = E .blocks;
+            stored = Y .0;
+            marked =
+                same-marks (writtenFrom store (take n (commitWrites store copy stamp mask))) n (Y .0)
+                (Y .1 ∙ sym (bare-now none-there) ∙ bare-held N store (d .history) (d .used) (d .tail) (E .stored));
+            copied = E .copied;
+          },
+        )
 
     cut-done : Agrees (stoppedBy none store copy stamp mask n) (doing d (CommitsCut stamp mask n))
     cut-done =
@@ -366,6 +416,69 @@ module _ (N : ℕ) (store copy : Bytes) (d : Side) (E : Seen N store copy d) (K 
   cut-one stamp mask n ty =
       subst (λ (o : Option ℕ). Agrees (stoppedBy o store copy stamp mask n) (sideStep d (CommitsCut stamp mask n))) (sym (same-refusal (CommitsCut stamp mask n)))
       (cut-by (firstOf (ownConditions d (CommitsCut stamp mask n))) stamp mask n ty refl)
+
+  -- ---- a release
+
+  module _ (R seat stamp : ℕ) (ty : stamp < 2 ^ 32) (e : firstOf (ownConditions d (Release R seat stamp)) ≡ none) where
+    abbrev m : Mark
+    m = released R seat stamp
+
+    lines : Clear (conditions d (Release R seat stamp))
+    lines = clear (conditions d (Release R seat stamp)) (own-none d (Release R seat stamp) e .0)
+
+    pub no-tail : d .tail ≡ 0
+    no-tail = eqb-true (d .tail) 0 (not-false (eqb (d .tail) 0) (own-none d (Release R seat stamp) e .1 .0))
+
+    marks-now : marks (logAll (blocksOf N store)) ≡ d .marks
+    marks-now = ap (λ (x : List Block). marks (logAll x)) (sym (blocks-now no-tail)) ∙ E .marked
+
+    last-now : last (commits (logAll (blocksOf N store))) ≡ last (d .history)
+    last-now = ap last (history-logged N store ∙ holds-accepted N store (d .history) (stored-now no-tail .holds) .2)
+
+    pub releasable : Releasable N store (d .history) (d .used) R seat stamp
+    releasable =
+        let seven = or-false (noSeat seat) (eqb R 0 || tooLate (d .history) R) (lines .0) in
+        let r = or-false (eqb R 0) (tooLate (d .history) R) (seven .1) in
+        let s = and-true (leb 1 seat) (leb seat 4) (is-T (leb 1 seat && leb seat 4) (seven .0)) in
+        record {
+          stored = stored-now no-tail;
+          short = omega (arith, K .used, K .room, E .blocks, E .many);
+          low = positive R (r .0);
+          high = ltb-false (last (d .history)) R (r .1);
+          seat-low = leb-true 1 seat (is-true (leb 1 seat) (s .0));
+          seat-high = leb-true seat 4 (is-true (leb seat 4) (s .1));
+          small = ty;
+          new = ap (λ (ps : List Placed). among R (releases ps)) marks-now ∙ lines .1 .0;
+          room = omega (arith, ltb-false (d .blocks) (d .used + 1) (lines .1 .1 .0), E .blocks);
+        }
+      where
+        positive : (r : ℕ) → eqb r 0 ≡ false → 1 ≤ r
+        positive zero q = let z : _≡_ {A = ℕ} 0 1 = cc in absurd (omega arith)
+        positive (suc r) q = omega arith
+
+    pub marked-store : Shown N (joined fieldsOf (withMark (storeBlocks store) m)) (marking d m)
+    marked-store =
+        let bs : List Block = blocksOf N store in
+        let new : Bytes = joined fieldsOf (withMark bs m) in
+        let S′ : Stored N new (d .history) (d .used + 1) = stored-mark N store (d .history) (d .used) R seat stamp releasable in
+        subst (λ (x : List Block). Shown N (joined fieldsOf (withMark x m)) (marking d m)) (sym (blocks-now no-tail)) (
+          subst (λ (t : ℕ). Tailed N new (d .history) (d .used + 1) t) (sym no-tail) (stored-tailed N new (d .history) (d .used + 1) S′),
+          ap marks (log-stored N new (d .history) (d .used + 1) S′ ∙ log-mark N store (d .history) (d .used) R seat stamp releasable) ∙ marks-mark (logAll bs) m
+              ∙ ap₂ (λ (ps : List Placed) (n : ℕ). ps ++ (record { after = n; mark = m } ∷ [])) marks-now last-now,
+        )
+
+  release-by : (o : Option ℕ) (R seat stamp : ℕ) → stamp < 2 ^ 32 → firstOf (ownConditions d (Release R seat stamp)) ≡ o
+      → Agrees (beside (markBy o store (Release R seat stamp)) copy) (sideBy o d (Release R seat stamp))
+  release-by (some n) R seat stamp ty e = (refl, E)
+  release-by none R seat stamp ty e =
+      let shown = marked-store R seat stamp ty e in
+      (refl, record { few = E .few; many = E .many; blocks = E .blocks; stored = shown .0; marked = shown .1; copied = E .copied })
+
+  release-one : (R seat stamp : ℕ) → stamp < 2 ^ 32 → Agrees (call store copy (Release R seat stamp)) (sideStep d (Release R seat stamp))
+  unfolding markCall
+  release-one R seat stamp ty =
+      subst (λ (o : Option ℕ). Agrees (beside (markBy o store (Release R seat stamp)) copy) (sideStep d (Release R seat stamp))) (sym (store-refusal (Release R seat stamp)))
+      (release-by (firstOf (ownConditions d (Release R seat stamp))) R seat stamp ty refl)
 
   -- ---- a call that looks: it leaves the side
 
@@ -391,8 +504,23 @@ module _ (N : ℕ) (store copy : Bytes) (d : Side) (E : Seen N store copy d) (K 
   pub read-one : (R i : ℕ) → readCall store R i ≡ sideStep d (Read R i) .0
   unfolding readPlace
   read-one R i =
-      ap₂ (λ (o : Option ℕ) (h : History). heard store [] (placeBy o (blockPlace store (blockUsed store R i) (namer h R i)))) (read-refusal R i) same-history
+      ap₂ (λ (o : Option ℕ) (h : History). heard store [] (placeBy o (blockPlace store (blockUsed store R i) (namer h R i)))) (store-refusal (Read R i)) same-history
       ∙ read-by (firstOf (conditions d (Read R i))) R i refl
+
+  panel-by : (o : Option ℕ) (R i : ℕ) → firstOf (conditions d (Panel R i)) ≡ o
+      → heard store [] (placeBy o (blockPlace store (blockUsed store (panelRevision (d .marks) R) i) (namer (d .history) (panelRevision (d .marks) R) i))) ≡ sideBy o d (Panel R i) .0
+  panel-by (some n) R i e = refl
+  panel-by none R i e =
+      let l = clear (conditions d (Panel R i)) e in
+      let top : R ≤ last (d .history) = ltb-false (last (d .history)) R (or-false (noSheet i) (tooLate (d .history) R) (l .0) .1) in
+      heard-by [] (panelSheet d R i) (panelRevision (d .marks) R) i (namer (d .history) (panelRevision (d .marks) R) i) (omega (arith, greatest-low R (releases (d .marks)))) refl (l .1 .0)
+
+  pub panel-one : (R i : ℕ) → panelCall store R i ≡ sideStep d (Panel R i) .0
+  unfolding panelPlace
+  panel-one R i =
+      ap₂ (λ (o : Option ℕ) (x : Side). heard store [] (placeBy o (blockPlace store (blockUsed store (panelRevision (x .marks) R) i) (namer (x .history) (panelRevision (x .marks) R) i))))
+      (store-refusal (Panel R i)) same-alone
+      ∙ panel-by (firstOf (conditions d (Panel R i))) R i refl
 
   shown-by : (o : Option Bytes) (i : ℕ) → i ≤ 31 → ownBytes (entry d i) ≡ o → not (present (shown o (newest (d .history) i))) ≡ false
       → heard store copy (ownPlace o i (blockPlace store (blockUsed store (last (d .history)) i) (namer (d .history) (last (d .history)) i)))
@@ -427,7 +555,7 @@ module _ (N : ℕ) (store copy : Bytes) (d : Side) (E : Seen N store copy d) (K 
   log-one : (R i : ℕ) → logCall store R i ≡ sideStep d (Log R i) .0
   unfolding logCall
   log-one R i =
-      ap₂ (λ (o : Option ℕ) (h : History). answerBy o (doing (record { seat = 0; blocks = blockCount store; used = usedOf store; tail = tailOf store; history = h; entries = [] }) (Log R i) .0)) (log-refusal R i) same-history
+      ap₂ (λ (o : Option ℕ) (x : Side). answerBy o (doing x (Log R i) .0)) (store-refusal (Log R i)) same-alone
       ∙ answer-by (firstOf (conditions d (Log R i))) (Log R i)
 
   -- THE STATEMENT for one seat: on buffers in which the side d is found, a call answers as the machine does, and leaves the machine's next side in them
@@ -447,6 +575,8 @@ module _ (N : ℕ) (store copy : Bytes) (d : Side) (E : Seen N store copy d) (K 
   side-one Clears ty = clear-one
   side-one (CommitsCut stamp mask n) ty = cut-one stamp mask n ty
   side-one (ClearsCut n) ty = clear-cut n
+  side-one (Release R seat stamp) ty = release-one R seat stamp ty
+  side-one (Panel R i) ty = look-one (panelCall store R i) (Panel R i) refl (panel-one R i)
 
 -- ---- one call on buffers that show a state
 
@@ -456,6 +586,7 @@ seen-seat N b s k W lo hi = record {
   many = W .many;
   blocks = W .blocks;
   stored = W .store;
+  marked = W .marked;
   copied =
       (let e : suc (k - 1) ≡ k = omega arith in
       subst (λ (n : ℕ). HoldsCopy (getD (b .copies) (k - 1) []) n (getD (s .seats) (k - 1) [])) e (W .copies (k - 1) (omega arith)));
@@ -469,6 +600,7 @@ module _ (N : ℕ) (b : Buffers) (s : State) (k : ℕ) (W : Shows N b s) (K : Ke
     many = W .many;
     blocks = E .blocks;
     store = E .stored;
+    marked = E .marked;
     four = length-set (b .copies) (k - 1) copy′ ∙ W .four;
     copies = λ j lt. elim (eq-or j (k - 1)) [
       | inl e ↦
@@ -485,7 +617,7 @@ module _ (N : ℕ) (b : Buffers) (s : State) (k : ℕ) (W : Shows N b s) (K : Ke
 
   -- the machine's step is its side's step, put back
   pub step-side : (o : Option ℕ) (c : Call) → (sideBy o (sideOf s k) c .0 ≡ stepBy o s k c .0) × (put s k (sideBy o (sideOf s k) c .1) ≡ stepBy o s k c .1)
-  step-side (some n) c = (refl, λ i. record { blocks = s .blocks; used = s .used; tail = s .tail; history = s .history; seats = set-getD (s .seats) (k - 1) [] i })
+  step-side (some n) c = (refl, λ i. record { blocks = s .blocks; used = s .used; tail = s .tail; history = s .history; marks = s .marks; seats = set-getD (s .seats) (k - 1) [] i })
   step-side none c = (refl, refl)
 
   seat-still : (o : Option ℕ) (c : Call) → sideBy o (sideOf s k) c .1 .seat ≡ k

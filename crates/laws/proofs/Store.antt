@@ -15,8 +15,9 @@ use Rattle.model.specs.Calls.{storeConditions}
 use Rattle.model.specs.Codec.{parts, shaped}
 use Rattle.block.specs.Write.{written}
 use Rattle.model.specs.History.{Bytes, History, last}
+use Rattle.model.specs.Pass.{logAll}
 use Rattle.model.specs.Refusals.{Clear, firstOf}
-use Rattle.model.specs.Store.{Holds, bareIn, bareOf, blanks, blockCount, blocksOf, checkedBut, filledIn, front, historyOf, lawfulBut, stemIn, storeBlocks, storeHistory, tailOf, usedOf}
+use Rattle.model.specs.Store.{Holds, bareIn, bareOf, blanks, blockCount, blocksOf, checkedBut, filledIn, front, historyOf, lawfulBut, stemIn, storeBlocks, storeHistory, storeLog, tailOf, usedOf}
 use Rattle.model.specs.Tail.{Stored, Tailed, tailBytes}
 use Rattle.laws.proofs.Conditions.{clear, sized-so, so-sized}
 use Rattle.laws.proofs.Tailing.{bare-tail, checked-tail, filled-tail, history-tail, lawful-tail, length-store}
@@ -72,6 +73,9 @@ module _ (N : ℕ) (store : Bytes) (h : History) (used t : ℕ) (X : Tailed N st
   pub history-held : storeHistory store ≡ h
   history-held = ap (λ (n : ℕ). historyOf n (bareIn n store)) count-held ∙ history-tail N store h used t X
 
+  pub log-held : storeLog store ≡ logAll (blocksOf N (X .bare))
+  log-held = ap₂ (λ (n : ℕ) (l : Bytes). logAll (blocksOf n l)) count-held bare-held
+
   pub used-held : usedOf store ≡ used
   used-held = ap₂ (λ (n : ℕ) (l : Bytes). length (front (blocksOf n l))) count-held bare-held ∙ X .stored .uses
 
@@ -123,3 +127,8 @@ pub tailed-stored : (N : ℕ) (store : Bytes) (h : History) (used t : ℕ) → t
 tailed-stored N store h used t z X =
     let Y : Tailed N store h used 0 = subst (Tailed N store h used) z X in
     subst (λ (b : Bytes). Stored N b h used) (tailed-none N store h used Y) (Y .stored)
+
+pub log-stored : (N : ℕ) (store : Bytes) (h : History) (used : ℕ) → Stored N store h used → storeLog store ≡ logAll (blocksOf N store)
+log-stored N store h used S =
+    let X = stored-tailed N store h used S in
+    log-held N store h used 0 X ∙ ap (λ (l : Bytes). logAll (blocksOf N l)) (tailed-none N store h used X)

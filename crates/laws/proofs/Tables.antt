@@ -13,10 +13,10 @@ use lib.ListN.{List·getD-map, getD, length, length-map, replicate, set, take}
 use lib.Seq.{ext-getD, getD-set-other, getD-set-same}
 use Rattle.block.proofs.Says.{and-true, eq-or}
 use Rattle.block.specs.Lists.{All}
-use Rattle.model.specs.Blocks.{Action, Block, Line, adds, blank, bytesAt, changes, commit, content, copies, deletes, label}
+use Rattle.model.specs.Blocks.{Action, Block, Line, adds, blank, bytesAt, changes, commit, content, copies, deletes, label, mark}
 use Rattle.model.specs.History.{Change, Tree, applied, made, nothing, tree, treeFrom, tree₀}
 use Rattle.model.specs.Layout.{Rule, RuleAs, Table, latest, means, next, puts}
-use Rattle.model.specs.Pass.{grown, laid, noChanges, ok, okFrom, readAll, readFrom, stated}
+use Rattle.model.specs.Pass.{grown, laid, noChanges, ok, okFrom, readAll, readFrom, stands, stated}
 use Rattle.laws.proofs.Acceptance.{laid-so, no-change, places}
 use Rattle.laws.proofs.Puts.{length-puts}
 
@@ -43,6 +43,7 @@ trail t [] = t ∷ []
 trail t (label ∷ bs) = t ∷ []
 trail t (content r b ∷ bs) = trail t bs
 trail t (commit r seat stamp ls ∷ bs) = t ∷ trail (next ls t) bs
+trail t (mark m ∷ bs) = trail t bs
 trail t (blank ∷ bs) = t ∷ []
 
 pub slot-some : (look : ℕ → List ℕ) (p : ℕ) → 1 ≤ p → slot look p ≡ some (look p)
@@ -138,6 +139,9 @@ module _ (look : ℕ → List ℕ) where
       let n = next-tree look at k tables low ls t (laid-so look at k tables seat stamp ls (o .0) .rules) w in
       trail-trees (suc (at + k)) 0 (grown tables ls) (next ls t) bs (omega arith) (latest-snoc tables (next ls (latest tables)) ∙ ap (next ls) e) (length-next ls t ∙ w) (o .1) j (omega arith)
       ∙ ap (λ (x : Tree). treeFrom x (take j (readFrom look bs))) n
+  trail-trees at k tables t (mark m ∷ bs) low e w p j h =
+      let q = and-true (eqb k 0) (stands tables m && okFrom look (suc at) 0 tables bs) p .1 in
+      trail-trees (suc at) 0 tables t bs (omega arith) e w (and-true (stands tables m) (okFrom look (suc at) 0 tables bs) q .1) j h
   trail-trees at k tables t (blank ∷ bs) low e w p zero h = refl
   trail-trees at k tables t (blank ∷ bs) low e w p (suc j) h = absurd (omega arith)
 
@@ -156,4 +160,5 @@ tables-trees (label ∷ bs) t r h =
     ∙ ap (λ (x : Tree). treeFrom x (take r (readFrom (bytesAt (label ∷ bs)) bs))) (no-sheets (bytesAt (label ∷ bs)))
 tables-trees (content r b ∷ bs) t j h = absurd t
 tables-trees (commit r seat stamp ls ∷ bs) t j h = absurd t
+tables-trees (mark m ∷ bs) t j h = absurd t
 tables-trees (blank ∷ bs) t j h = absurd t

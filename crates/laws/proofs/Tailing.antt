@@ -14,13 +14,14 @@ use Rattle.block.proofs.Writing.{written-at, length-written}
 use Rattle.block.specs.Check.{sealed}
 use Rattle.block.specs.Lists.{All, all}
 use Rattle.block.specs.Write.{written}
-use Rattle.model.specs.Blocks.{Block, FitsBlock, blank, bytesAt, commit, content, fieldsOf, fitsBlock, label, parse}
+use Rattle.model.specs.Blocks.{Block, FitsBlock, blank, bytesAt, commit, content, fieldsOf, fitsBlock, label, mark, parse}
 use Rattle.model.specs.Codec.{encode, joined, parts, shaped}
 use Rattle.model.specs.History.{Bytes, History, last}
 use Rattle.model.specs.Layout.{Table}
-use Rattle.model.specs.Pass.{grown, isBlank, laid, ok, okFrom}
+use Rattle.model.specs.Pass.{grown, isBlank, laid, ok, okFrom, stands}
 use Rattle.model.specs.Store.{bareIn, blankFrom, blanks, blocksOf, carries, checked, checkedBut, countedBy, filledIn, front, historyOf, lawful, lawfulBut, lawfulBy, onStem, stem, stemIn, wholeIn}
 use Rattle.model.specs.Tail.{Junk, Tailed, flat, tailBytes}
+use Rattle.model.specs.Log.{Mark}
 use Rattle.laws.proofs.Acceptance.{lays-accepted}
 use Rattle.laws.proofs.All.{all-append, all-left}
 use Rattle.laws.proofs.BlockCodes.{block-coded}
@@ -48,6 +49,10 @@ on-commit : (r s t : ℕ) (ls : _) (fr : List Block) → onStem (commit r s t ls
 on-commit r s t ls [] = refl
 on-commit r s t ls (c ∷ cs) = refl
 
+on-mark : (m : Mark) (fr : List Block) → onStem (mark m) fr ≡ mark m ∷ fr
+on-mark m [] = refl
+on-mark m (c ∷ cs) = refl
+
 pub on-label : (fr : List Block) → onStem label fr ≡ label ∷ fr
 on-label [] = refl
 on-label (c ∷ cs) = refl
@@ -64,6 +69,10 @@ stem-front look at k tables (commit r s q ls ∷ fr) bl a nb t =
     let p = and-true (eqb r (length tables)) (laid look at k tables s ls && okFrom look (suc (at + k)) 0 (grown tables ls) (fr ++ bl)) t .1 in
     let i = stem-front look (suc (at + k)) 0 (grown tables ls) fr bl a nb (and-true (laid look at k tables s ls) (okFrom look (suc (at + k)) 0 (grown tables ls) (fr ++ bl)) p .1) in
     (ap (onStem (commit r s q ls)) (i .0) ∙ on-commit r s q ls fr, λ h. omega arith)
+stem-front look at k tables (mark m ∷ fr) bl a nb t =
+    let p = and-true (eqb k 0) (stands tables m && okFrom look (suc at) 0 tables (fr ++ bl)) t .1 in
+    let i = stem-front look (suc at) 0 tables fr bl a nb (and-true (stands tables m) (okFrom look (suc at) 0 tables (fr ++ bl)) p .1) in
+    (ap (onStem (mark m)) (i .0) ∙ on-mark m fr, λ h. omega arith)
 stem-front look at k tables (blank ∷ fr) bl a nb t = absurd nb
 
 pub stem-used : (bs : List Block) → T (ok bs) → stem (front bs) ≡ front bs
@@ -78,6 +87,7 @@ stem-used (label ∷ bs) t =
     ap (onStem label) (i .0) ∙ on-label (front bs)
 stem-used (content r b ∷ bs) t = absurd t
 stem-used (commit r s q ls ∷ bs) t = absurd t
+stem-used (mark m ∷ bs) t = absurd t
 stem-used (blank ∷ bs) t = absurd t
 
 -- blank blocks are zeros

@@ -14,9 +14,10 @@ use Rattle.block.proofs.Says.{eq-or, is-true}
 use Rattle.block.specs.Buffer.{blockAt}
 use Rattle.block.specs.Check.{checksOf, isZero, sealed}
 use Rattle.block.specs.Lists.{All, all}
-use Rattle.model.specs.Blocks.{Block, FitsBlock, blank, commit, content, fieldsOf, fitsBlock, label, parse}
+use Rattle.model.specs.Blocks.{Block, FitsBlock, blank, commit, content, fieldsOf, fitsBlock, label, mark, parse}
 use Rattle.model.specs.Codec.{encode, joined, padded, parts}
 use Rattle.model.specs.History.{Bytes}
+use Rattle.model.specs.Log.{released}
 use Rattle.model.specs.Pass.{isBlank}
 use Rattle.model.specs.Store.{blocksOf, filledIn, onStem, stem, wholeBy, wholeIn}
 use Rattle.model.specs.Tail.{Junk}
@@ -47,6 +48,7 @@ unfolding encode padded checksOf
 zero-block label = refl
 zero-block (content r x) = refl
 zero-block (commit r s t ls) = refl
+zero-block (mark (released r s t)) = refl
 zero-block blank = refl
 
 pub zeros-block : encode fieldsOf blank ≡ replicate 512 0
@@ -154,10 +156,12 @@ last-there w rest nb h =
     each (label ∷ w) zero nb h = refl
     each (content r b ∷ w) zero nb h = refl
     each (commit r s t ls ∷ w) zero nb h = refl
+    each (mark m ∷ w) zero nb h = refl
     each (blank ∷ w) zero nb h = absurd nb
     each (label ∷ w) (suc p) nb h = each w p nb (omega arith)
     each (content r b ∷ w) (suc p) nb h = each w p nb (omega arith)
     each (commit r s t ls ∷ w) (suc p) nb h = each w p nb (omega arith)
+    each (mark m ∷ w) (suc p) nb h = each w p nb (omega arith)
     each (blank ∷ w) (suc p) nb h = absurd nb
 
 pub seals : (b : Block) → FitsBlock b → sealed (encode fieldsOf b) ≡ true

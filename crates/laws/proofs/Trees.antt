@@ -2,7 +2,7 @@
 -- Assumes nothing.
 use Prim.Native.Nat.{_+_, _-_, _<_, _≤_, suc, zero, ℕ}
 use mathlib.Core.Bool.{Bool, cond, false, true}
-use mathlib.Core.List.{[], _++_, _∷_, append-assoc, append-nil}
+use mathlib.Core.List.{[], _++_, _∷_}
 use mathlib.Core.Option.{Option, none, some}
 use mathlib.Core.Path.{_∙_, _≡_, ap, refl, subst, sym}
 use native.Mathlib.Omega.{arith}
@@ -13,8 +13,7 @@ use lib.Seq.{getD-append-seam, getD-take, length-take-le, take-add, take-append-
 use Rattle.block.proofs.Says.{says-same, true-says}
 use Rattle.block.specs.Lists.{All}
 use Rattle.model.specs.History.{Bytes, Change, Commit, History, Tree, add, applied, change, changeOf, commitAt, copy, delete, isBytes, last, made, namer, namerFrom, names, newest, noCommit, nothing, present, sheet, tree, treeFrom, tree₀}
-use Rattle.model.specs.Invariant.{Base, Made, Right, Short, Sound, takes, usedBy}
-use Rattle.model.specs.Machine.{blocksFor}
+use Rattle.model.specs.Invariant.{Base, Made, Right, Short, Sound}
 use Rattle.laws.proofs.All.{all-drop, all-take}
 use Rattle.laws.proofs.Rows.{cond-any, replicate-any}
 use Rattle.laws.proofs.Tables.{applied-at, length-applied}
@@ -96,26 +95,6 @@ sound-grown h c s m r lt = go (leb (suc r) (length h)) refl
         let p : take r (h ++ (c ∷ [])) ≡ h = ap (λ (n : ℕ). take n (h ++ (c ∷ []))) z ∙ take-append-seam h (c ∷ []) in
         let q : getD (h ++ (c ∷ [])) r noCommit ≡ c = ap (λ (n : ℕ). getD (h ++ (c ∷ [])) n noCommit) z ∙ getD-append-seam h c [] noCommit in
         rw (p, q) m
-
-takes-grown : (b h : History) (c : Commit) → takes b (h ++ (c ∷ [])) ≡ takes b h + blocksFor (b ++ h) (c .changes)
-takes-grown b [] c = rw append-nil (omega arith)
-takes-grown b (d ∷ h) c =
-    let ih : takes (b ++ (d ∷ [])) (h ++ (c ∷ [])) ≡ takes (b ++ (d ∷ [])) h + blocksFor ((b ++ (d ∷ [])) ++ h) (c .changes) = takes-grown (b ++ (d ∷ [])) h c in
-    let e : (b ++ (d ∷ [])) ++ h ≡ b ++ (d ∷ h) = append-assoc b (d ∷ []) h in
-    let j : takes (b ++ (d ∷ [])) (h ++ (c ∷ [])) ≡ takes (b ++ (d ∷ [])) h + blocksFor (b ++ (d ∷ h)) (c .changes) =
-    ih ∙ ap (λ (k : History). takes (b ++ (d ∷ [])) h + blocksFor k (c .changes)) e in
-    omega (arith, j)
-
-pub used-grown : (h : History) (c : Commit) → usedBy (h ++ (c ∷ [])) ≡ usedBy h + blocksFor h (c .changes)
-used-grown h c = omega (arith, takes-grown [] h c)
-
-takes-low : (b h : History) → last h ≤ takes b h
-takes-low b [] = omega arith
-takes-low b (c ∷ h) = omega (arith, takes-low (b ++ (c ∷ [])) h)
-
--- each commit takes a block: so the last revision is below the count of used blocks
-pub used-low : (h : History) → last h < usedBy h
-used-low h = omega (arith, takes-low [] h)
 
 -- ---- the commit that last named a sheet
 

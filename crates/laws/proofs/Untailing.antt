@@ -16,7 +16,7 @@ use Rattle.block.specs.Buffer.{blockAt}
 use Rattle.block.specs.Check.{isZero, sealed}
 use Rattle.block.specs.Lists.{All, all}
 use Rattle.block.specs.Write.{written}
-use Rattle.model.specs.Blocks.{Block, FitsBlock, blank, commit, content, fieldsOf, fitsBlock, held, label, parse}
+use Rattle.model.specs.Blocks.{Block, FitsBlock, blank, commit, content, fieldsOf, fitsBlock, held, label, mark, parse}
 use Rattle.model.specs.Codec.{joined, parts, shaped}
 use Rattle.model.specs.History.{Bytes, History, last}
 use Rattle.model.specs.Store.{bareIn, blankFrom, blocksOf, carries, checked, checkedBut, countedBy, filledIn, front, historyOf, lawful, lawfulBut, onStem, stem, stemIn, tailBy, wholeBy, wholeIn}
@@ -77,6 +77,7 @@ stem-split (b ∷ w) = go b (stem w) (stem-split w)
     go label [] e = refl
     go (content r x) [] e = refl
     go (commit r s t ls) [] e = refl
+    go (mark m) [] e = refl
     go blank [] e = refl
     go b (c ∷ cs) e = ap (λ (x : List Block). b ∷ x) e
 
@@ -87,6 +88,7 @@ held-back r (content q b ∷ xs) t =
     let p = and-true (eqb q r) (all (carries r) xs) t in
     ap₂ (λ (k : ℕ) (ys : List Block). content k b ∷ ys) (sym (eqb→eq q r (p .0))) (held-back r xs (p .1))
 held-back r (commit q s u ls ∷ xs) t = absurd t
+held-back r (mark m ∷ xs) t = absurd t
 held-back r (blank ∷ xs) t = absurd t
 
 -- ---- the whole blocks

@@ -11,27 +11,31 @@ use lib.ListN.{length, replicate, take}
 use lib.Seq.{take-at}
 use Rattle.block.proofs.Says.{is-true}
 use Rattle.block.specs.Lists.{all}
-use Rattle.model.specs.Blocks.{Block, FitsBlock, blank, bytesAt, commit, content, fieldsOf, fitsBlock, label, parse}
+use Rattle.model.specs.Blocks.{Block, FitsBlock, blank, bytesAt, commit, content, fieldsOf, fitsBlock, label, mark, parse}
 use Rattle.model.specs.Calls.{storeConditions}
 use Rattle.model.specs.Codec.{parts, shaped}
 use Rattle.model.specs.History.{Bytes}
-use Rattle.model.specs.Layout.{Lays, LaysFrom}
-use Rattle.model.specs.Pass.{isBlank, ok, tablesOf}
+use Rattle.model.specs.Layout.{Lays, LaysFrom, LaysLog}
+use Rattle.model.specs.Log.{Log, commits, marks, marksOk}
+use Rattle.model.specs.Pass.{isBlank, logAll, ok, tablesOf}
 use Rattle.model.specs.Refusals.{firstOf}
-use Rattle.model.specs.Store.{bareOf, blanks, blockCount, blocksOf, front, historyOf, lawful, storeBlocks, storeHistory, usedOf}
-use Rattle.laws.proofs.Acceptance.{lays-accepted}
+use Rattle.model.specs.Store.{bareOf, blanks, blockCount, blocksOf, front, historyOf, lawful, storeBlocks, storeHistory, storeLog, usedOf}
+use Rattle.laws.proofs.Acceptance.{logs-accepted}
 use Rattle.laws.proofs.Append.{append, unmoved}
 use Rattle.laws.proofs.BlockCodes.{block-coded}
 use Rattle.laws.proofs.Codec.{length-parts}
+use Rattle.laws.proofs.Holding.{history-logged, log-holds}
+use Rattle.laws.proofs.Logs.{says-marked}
 use Rattle.laws.proofs.Store.{taken-blocks, taken-holds, taken-room, taken-shaped}
 use Rattle.laws.proofs.Untailing.{all-blanks}
-use Rattle.laws.proofs.Writing.{front-blanks, holds-blocks, no-blank, some-used, tables-used}
+use Rattle.laws.proofs.Writing.{Logged, front-blanks, holds-blocks, holds-log, no-blank, some-used, tables-used}
 
 front-again : (bs : List Block) → front (front bs) ≡ front bs
 front-again [] = refl
 front-again (label ∷ bs) = ap (λ (l : List Block). label ∷ l) (front-again bs)
 front-again (content r b ∷ bs) = ap (λ (l : List Block). content r b ∷ l) (front-again bs)
 front-again (commit r s t ls ∷ bs) = ap (λ (l : List Block). commit r s t ls ∷ l) (front-again bs)
+front-again (mark m ∷ bs) = ap (λ (l : List Block). mark m ∷ l) (front-again bs)
 front-again (blank ∷ bs) = refl
 
 module _ (store : Bytes) (e : firstOf (storeConditions store) ≡ none) where
@@ -56,26 +60,35 @@ module _ (store : Bytes) (e : firstOf (storeConditions store) ≡ none) where
   lays : Lays bs (storeHistory store)
   lays = holds-blocks (blockCount store) (bareOf store) (storeHistory store) (taken-holds store e) .lays
 
-  own-lays : Lays own (storeHistory store)
+  logged : Logged (blockCount store) (bareOf store) (storeLog store) bs
+  logged = holds-log (blockCount store) (bareOf store) (storeLog store) (log-holds (blockCount store) (bareOf store) (storeHistory store) (taken-holds store e))
+
+  own-lays : LaysLog own (storeLog store)
   unfolding LaysFrom
   own-lays =
-      subst₂ Lays (append-nil own) (append-nil (storeHistory store))
-      (append own bl [] (storeHistory store) [] (subst (λ (x : List Block). T (all (λ b. not (isBlank b)) x)) front-own (no-blank bs)) (all-blanks (blockCount store - usedOf store))
-      (omega (arith, own-size, some-used bs (storeHistory store) lays)) (subst (λ (x : List Block). Lays x (storeHistory store)) (taken-blocks store e) lays) tt)
+      subst₂ LaysLog (append-nil own) (append-nil (storeLog store))
+      (append own bl [] (storeLog store) [] (subst (λ (x : List Block). T (all (λ b. not (isBlank b)) x)) front-own (no-blank bs)) (all-blanks (blockCount store - usedOf store))
+      (omega (arith, own-size, some-used bs (storeHistory store) lays)) (subst (λ (x : List Block). LaysLog x (storeLog store)) (taken-blocks store e) (logged .lays)) tt)
 
   -- THE STATEMENTS
   pub own-room : usedOf store * 512 ≤ length store
   own-room = taken-room store e
 
+  pub own-log : logAll (blocksOf (usedOf store) store) ≡ storeLog store
+  own-log = logs-accepted own (storeLog store) own-lays .1
+
+  pub own-laid : ok (blocksOf (usedOf store) store) ≡ true
+  own-laid = is-true (ok own) (logs-accepted own (storeLog store) own-lays .0)
+
   pub own-lawful : lawful (usedOf store) store ≡ true
   unfolding lawful
   own-lawful =
       ap₂ (λ a b. a && b) (is-true (all (shaped fieldsOf parse fitsBlock) (parts (usedOf store) store)) (taken-shaped store e))
-      (is-true (ok own) (lays-accepted own (storeHistory store) own-lays .0))
+      (ap₂ (λ a b. a && b) own-laid
+      (ap (λ (g : Log). marksOk (marks g)) own-log ∙ is-true (marksOk (marks (storeLog store))) (says-marked (marks (storeLog store)) .so-true (logged .marked))))
 
   pub own-history : historyOf (usedOf store) store ≡ storeHistory store
-  unfolding historyOf
-  own-history = lays-accepted own (storeHistory store) own-lays .1
+  own-history = sym (history-logged (usedOf store) store) ∙ ap commits own-log ∙ history-logged (blockCount store) (bareOf store)
 
   pub own-used : length (front (blocksOf (usedOf store) store)) ≡ usedOf store
   own-used = ap (λ (x : List Block). length (front x)) (sym front-own) ∙ ap length (front-again bs)

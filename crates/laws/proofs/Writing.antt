@@ -11,24 +11,26 @@ use lib.Dec.{T, eqb}
 use lib.ListN.{drop, getD, length, length-append, length-drop, length-map, replicate}
 use Rattle.block.proofs.Says.{and-true}
 use Rattle.block.specs.Lists.{All, all, same}
-use Rattle.model.specs.Blocks.{Block, FitsBlock, FitsLine, blank, bytesAt, commit, content, fieldsOf, fitsBlock, label, parse}
+use Rattle.model.specs.Blocks.{Block, FitsBlock, FitsLine, blank, bytesAt, commit, content, fieldsOf, fitsBlock, label, mark, parse}
 use Rattle.model.specs.Codec.{joined, parts}
 use Rattle.model.specs.History.{Bytes, Change, Commit, History, add, change, copy, delete, isBytes, last, newest, nothing, present, sheet, tree}
 use Rattle.model.specs.Invariant.{Base, Made, Right, Short}
-use Rattle.model.specs.Layout.{Lays, Table, user}
+use Rattle.model.specs.Layout.{Lays, LaysLog, Table, user}
+use Rattle.model.specs.Log.{Log, Marked, aCommit, commits, marks}
 use Rattle.model.specs.Machine.{blocksFor, contentOf, count}
-use Rattle.model.specs.Pass.{grown, isBlank, laid, ok, okFrom, tablesAfter, tablesOf}
+use Rattle.model.specs.Pass.{grown, isBlank, laid, logAll, ok, okFrom, stands, tablesAfter, tablesOf}
 use Rattle.model.specs.Rows.{total}
 use Rattle.model.specs.Tail.{Stored}
-use Rattle.model.specs.Store.{Holds, blanks, blocksOf, front}
+use Rattle.model.specs.Store.{Holds, HoldsLog, blanks, blocksOf, front}
 use Rattle.model.specs.Writing.{Plan, contentsFor, linesFor, newBlocks, newContents, newLines, planCopy, planOf, withCommit}
-use Rattle.laws.proofs.Acceptance.{lays-accepted}
+use Rattle.laws.proofs.Acceptance.{lays-accepted, log-lays, logs-accepted}
 use Rattle.laws.proofs.All.{all-append, all-drop, all-left, all-right}
 use Rattle.laws.proofs.Append.{user-low}
 use Rattle.laws.proofs.BlockCodes.{block-coded}
 use Rattle.laws.proofs.Bridge.{Allowed, Trees, has, lacks, trees-of}
 use Rattle.laws.proofs.Codec.{so-parts}
 use Rattle.laws.proofs.Grows.{AllowedFrom, allowed-lays, tables-below}
+use Rattle.laws.proofs.Logs.{commits-append, marks-commit}
 
 -- ---- the used blocks and the blank ones
 
@@ -37,6 +39,7 @@ front-blanks [] = refl
 front-blanks (label ∷ bs) = ap (λ (l : List Block). label ∷ l) (front-blanks bs)
 front-blanks (content r b ∷ bs) = ap (λ (l : List Block). content r b ∷ l) (front-blanks bs)
 front-blanks (commit r s t ls ∷ bs) = ap (λ (l : List Block). commit r s t ls ∷ l) (front-blanks bs)
+front-blanks (mark m ∷ bs) = ap (λ (l : List Block). mark m ∷ l) (front-blanks bs)
 front-blanks (blank ∷ bs) = refl
 
 pub no-blank : (bs : List Block) → T (all (λ b. not (isBlank b)) (front bs))
@@ -44,6 +47,7 @@ no-blank [] = tt
 no-blank (label ∷ bs) = no-blank bs
 no-blank (content r b ∷ bs) = no-blank bs
 no-blank (commit r s t ls ∷ bs) = no-blank bs
+no-blank (mark m ∷ bs) = no-blank bs
 no-blank (blank ∷ bs) = tt
 
 all-blank : (bs : List Block) → T (all isBlank bs) → All (λ (b : Block). b ≡ blank) bs
@@ -51,6 +55,7 @@ all-blank [] t = tt
 all-blank (label ∷ bs) t = absurd t
 all-blank (content r b ∷ bs) t = absurd t
 all-blank (commit r s u ls ∷ bs) t = absurd t
+all-blank (mark m ∷ bs) t = absurd t
 all-blank (blank ∷ bs) t = (refl, all-blank bs t)
 
 blank-after : (look : ℕ → List ℕ) (at k : ℕ) (tables : List Table) (bs : List Block) → T (okFrom look at k tables bs) → All (λ (b : Block). b ≡ blank) (blanks bs)
@@ -62,6 +67,9 @@ blank-after look at k tables (content r b ∷ bs) t =
 blank-after look at k tables (commit r seat stamp ls ∷ bs) t =
     let p = and-true (eqb r (length tables)) (laid look at k tables seat ls && okFrom look (suc (at + k)) 0 (grown tables ls) bs) t in
     blank-after look (suc (at + k)) 0 (grown tables ls) bs (and-true (laid look at k tables seat ls) (okFrom look (suc (at + k)) 0 (grown tables ls) bs) (p .1) .1)
+blank-after look at k tables (mark m ∷ bs) t =
+    let p = and-true (eqb k 0) (stands tables m && okFrom look (suc at) 0 tables bs) t in
+    blank-after look (suc at) 0 tables bs (and-true (stands tables m) (okFrom look (suc at) 0 tables bs) (p .1) .1)
 blank-after look at k tables (blank ∷ bs) t = (refl, all-blank bs (and-true (eqb k 0) (all isBlank bs) t .1))
 
 pub blank-rest : (bs : List Block) → T (ok bs) → All (λ (b : Block). b ≡ blank) (blanks bs)
@@ -70,6 +78,7 @@ blank-rest [] t = absurd t
 blank-rest (label ∷ bs) t = blank-after (bytesAt (label ∷ bs)) 1 0 (replicate 32 0 ∷ []) bs t
 blank-rest (content r b ∷ bs) t = absurd t
 blank-rest (commit r seat stamp ls ∷ bs) t = absurd t
+blank-rest (mark m ∷ bs) t = absurd t
 blank-rest (blank ∷ bs) t = absurd t
 
 pub some-front : (bs : List Block) → T (ok bs) → 1 ≤ length (front bs)
@@ -78,13 +87,15 @@ some-front [] t = absurd t
 some-front (label ∷ bs) t = omega arith
 some-front (content r b ∷ bs) t = absurd t
 some-front (commit r seat stamp ls ∷ bs) t = absurd t
+some-front (mark m ∷ bs) t = absurd t
 some-front (blank ∷ bs) t = absurd t
 
-front-append : (f g : List Block) → T (all (λ b. not (isBlank b)) f) → front (f ++ g) ≡ f ++ front g
+pub front-append : (f g : List Block) → T (all (λ b. not (isBlank b)) f) → front (f ++ g) ≡ f ++ front g
 front-append [] g t = refl
 front-append (label ∷ f) g t = ap (λ (l : List Block). label ∷ l) (front-append f g t)
 front-append (content r b ∷ f) g t = ap (λ (l : List Block). content r b ∷ l) (front-append f g t)
 front-append (commit r s u ls ∷ f) g t = ap (λ (l : List Block). commit r s u ls ∷ l) (front-append f g t)
+front-append (mark m ∷ f) g t = ap (λ (l : List Block). mark m ∷ l) (front-append f g t)
 front-append (blank ∷ f) g t = absurd t
 
 front-contents : (r : ℕ) (cs : List (List ℕ)) (g : List Block) → front (map (content r) cs ++ g) ≡ map (content r) cs ++ front g
@@ -103,16 +114,30 @@ pub record Blocks (n : ℕ) (l : Bytes) (h : History) (bs : List Block) : Type 0
   pub bytes : joined fieldsOf bs ≡ l
   pub lays : Lays bs h
 
+-- the same with the marks
+pub record Logged (n : ℕ) (l : Bytes) (g : Log) (bs : List Block) : Type 0 where
+  pub count : length bs ≡ n
+  pub fit : All FitsBlock bs
+  pub bytes : joined fieldsOf bs ≡ l
+  pub lays : LaysLog bs g
+  pub marked : Marked (marks g)
+
 pub blocks-back : (n : ℕ) (bs : List Block) → length bs ≡ n → All FitsBlock bs → blocksOf n (joined fieldsOf bs) ≡ bs
 unfolding blocksOf
 blocks-back n bs e a =
     ap (λ (m : ℕ). map parse (parts m (joined fieldsOf bs))) (sym e) ∙ so-parts fieldsOf parse fitsBlock FitsBlock block-coded bs a .2
 
+pub holds-log : (n : ℕ) (l : Bytes) (g : Log) → HoldsLog n l g → Logged n l g (blocksOf n l)
+unfolding HoldsLog
+holds-log n l g m =
+    let e : blocksOf n l ≡ m .0 = ap (blocksOf n) (sym (m .3)) ∙ blocks-back n (m .0) (m .1) (m .2) in
+    subst (Logged n l g) (sym e) (record { count = m .1; fit = m .2; bytes = m .3; lays = m .4; marked = m .5 })
+
 pub holds-blocks : (n : ℕ) (l : Bytes) (h : History) → Holds n l h → Blocks n l h (blocksOf n l)
 unfolding Holds
 holds-blocks n l h m =
-    let e : blocksOf n l ≡ m .0 = ap (blocksOf n) (sym (m .3)) ∙ blocks-back n (m .0) (m .1) (m .2) in
-    subst (Blocks n l h) (sym e) (record { count = m .1; fit = m .2; bytes = m .3; lays = m .4 })
+    let B = holds-log n l (m .0) (m .2) in
+    record { count = B .count; fit = B .fit; bytes = B .bytes; lays = subst (Lays (blocksOf n l)) (m .1) (log-lays (blocksOf n l) (m .0) (B .lays)) }
 
 -- ---- one commit
 
@@ -247,6 +272,7 @@ after-front ts [] = refl
 after-front ts (label ∷ bs) = refl
 after-front ts (content r b ∷ bs) = after-front ts bs
 after-front ts (commit r s t ls ∷ bs) = after-front (grown ts ls) bs
+after-front ts (mark m ∷ bs) = after-front ts bs
 after-front ts (blank ∷ bs) = refl
 
 -- what is known of the used blocks: the tables' block numbers are theirs, and the trees' bytes are in them
@@ -258,8 +284,8 @@ module _ (bs : List Block) (h : History) (L : Lays bs h) where
   lays-split = subst (λ (x : List Block). Lays x h) (sym (front-blanks bs)) L
 
   pub tables-used : tablesOf (front bs) ≡ tablesOf bs
-  unfolding Lays tablesOf
-  tables-used = subst (λ (x : List Block). tablesOf (front x) ≡ tablesOf x) (sym (L .1)) (after-front (replicate 32 0 ∷ []) (L .0))
+  unfolding Lays LaysLog tablesOf
+  tables-used = subst (λ (x : List Block). tablesOf (front x) ≡ tablesOf x) (sym (L .2 .1)) (after-front (replicate 32 0 ∷ []) (L .2 .0))
 
   pub some-used : 1 ≤ length (front bs)
   some-used = some-front bs passed
@@ -315,10 +341,11 @@ module _ (bs : List Block) (h : History) (c : Commit) (few : length bs ≤ 4_096
     some-line : 1 ≤ length (newLines (front bs) (blanks bs) c)
     some-line = omega (arith, M .some, line-count look at tables h (source-bytes bs h L) (user-below bs h L) low (omega arith) (c .changes) 0 at)
 
-    pub written-lays : Lays (withCommit bs c) (h ++ (c ∷ []))
-    written-lays =
-        allowed-lays (front bs) (blanks bs) after h c (no-blank bs) (blank-rest bs (passed bs h L)) blank-left (some-used bs h L) (lays-split bs h L) (M .low) (M .high) (M .wide)
-        (alloweds h 0 (c .changes) rights) some-line
+    pub written-log : (g : Log) → commits g ≡ h → LaysLog bs g → LaysLog (withCommit bs c) (g ++ (aCommit c ∷ []))
+    written-log g e G =
+        allowed-lays (front bs) (blanks bs) after g c (no-blank bs) (blank-rest bs (passed bs h L)) blank-left (some-used bs h L)
+        (subst (λ (x : List Block). LaysLog x g) (sym (front-blanks bs)) G) (M .low) (M .high) (M .wide)
+        (subst (λ (x : History). AllowedFrom x 0 (c .changes)) (sym e) (alloweds h 0 (c .changes) rights)) some-line
 
     fits-commit : FitsBlock (commit (length tables) (c .seat) (c .stamp) (newLines (front bs) (blanks bs) c))
     fits-commit = (
@@ -371,20 +398,56 @@ module _ (bs : List Block) (h : History) (c : Commit) (few : length bs ≤ 4_096
         ap length written-front ∙ length-append (front bs) (new ++ (one ∷ [])) ∙ omega (arith, length-append new (one ∷ []), d, contents)
 
 -- THE STATEMENT: the store with the commit written shows the longer history, and as many used blocks as the machine counts
-pub stored-commit : (N : ℕ) (store : Bytes) (h : History) (used : ℕ) (c : Commit) → N ≤ 4_096 → last h < 65_535 → Stored N store h used → Made h c
-    → used + blocksFor h (c .changes) ≤ N → Stored N (joined fieldsOf (withCommit (blocksOf N store) c)) (h ++ (c ∷ [])) (used + blocksFor h (c .changes))
-unfolding Holds
-stored-commit N store h used c many short S M room =
-    let B = holds-blocks N store h (S .holds) in
-    let bs : List Block = blocksOf N store in
-    let n : length bs ≡ N = B .count in
-    let few : length bs ≤ 4_096 = omega (arith, n) in
-    let r : length (front bs) + blocksFor h (c .changes) ≤ length bs = omega (arith, n, S .uses, room) in
-    let fit : All FitsBlock (withCommit bs c) = written-fits bs h c few (B .fit) (B .lays) M short r in
-    let len : length (withCommit bs c) ≡ N = written-length bs h c few (B .fit) (B .lays) M short r ∙ n in
-    record {
-      holds = (withCommit bs c, len, fit, refl, written-lays bs h c few (B .fit) (B .lays) M short r);
-      uses =
-          ap (λ (x : List Block). length (front x)) (written-back bs h c few (B .fit) (B .lays) M short r N n)
-          ∙ written-used bs h c few (B .fit) (B .lays) M short r ∙ ap (λ (m : ℕ). m + blocksFor h (c .changes)) (S .uses);
-    }
+module _ (N : ℕ) (store : Bytes) (h : History) (used : ℕ) (c : Commit) (many : N ≤ 4_096) (short : last h < 65_535) (S : Stored N store h used) (M : Made h c)
+    (room : used + blocksFor h (c .changes) ≤ N)
+  where
+    abbrev blocks : List Block
+    blocks = blocksOf N store
+
+    B : Blocks N store h blocks
+    B = holds-blocks N store h (S .holds)
+
+    few : length blocks ≤ 4_096
+    few = omega (arith, B .count)
+
+    fit-in : length (front blocks) + blocksFor h (c .changes) ≤ length blocks
+    fit-in = omega (arith, B .count, S .uses, room)
+
+    fits : All FitsBlock (withCommit blocks c)
+    fits = written-fits blocks h c few (B .fit) (B .lays) M short fit-in
+
+    size : length (withCommit blocks c) ≡ N
+    size = written-length blocks h c few (B .fit) (B .lays) M short fit-in ∙ B .count
+
+    pub stored-commit : Stored N (joined fieldsOf (withCommit blocks c)) (h ++ (c ∷ [])) (used + blocksFor h (c .changes))
+    unfolding Holds HoldsLog
+    stored-commit =
+        let g : Log = S .holds .0 in
+        let G = holds-log N store g (S .holds .2) in
+        record {
+          holds = (
+            g ++ (aCommit c ∷ []),
+            commits-append g (aCommit c ∷ []) ∙ ap (λ (x : History). x ++ (c ∷ [])) (S .holds .1),
+            (
+              withCommit blocks c,
+              size,
+              fits,
+              refl,
+              written-log blocks h c few (B .fit) (B .lays) M short fit-in g (S .holds .1) (G .lays),
+              subst Marked (sym (marks-commit g c)) (G .marked),
+            ),
+          );
+          uses =
+              ap (λ (x : List Block). length (front x)) (blocks-back N (withCommit blocks c) size fits)
+              ∙ written-used blocks h c few (B .fit) (B .lays) M short fit-in ∙ ap (λ (m : ℕ). m + blocksFor h (c .changes)) (S .uses);
+        }
+
+    -- and the commit stands last among commits and marks
+    pub log-commit : logAll (blocksOf N (joined fieldsOf (withCommit blocks c))) ≡ logAll blocks ++ (aCommit c ∷ [])
+    unfolding Holds
+    log-commit =
+        let g : Log = S .holds .0 in
+        let G = holds-log N store g (S .holds .2) in
+        let new = written-log blocks h c few (B .fit) (B .lays) M short fit-in g (S .holds .1) (G .lays) in
+        ap logAll (blocks-back N (withCommit blocks c) size fits) ∙ logs-accepted (withCommit blocks c) (g ++ (aCommit c ∷ [])) new .1
+        ∙ ap (λ (x : Log). x ++ (aCommit c ∷ [])) (sym (logs-accepted blocks g (G .lays) .1))

@@ -6,7 +6,7 @@ use mathlib.Core.Option.{Option, none, some}
 use mathlib.Core.Path.{_∙_, _≡_, ap, refl}
 use Rattle.model.specs.Calls.{changeBy, changeCall, copyConditions, refusalOf, sideIn, storeConditions}
 use Rattle.model.specs.History.{Bytes}
-use Rattle.model.specs.Machine.{Add, Call, Clears, ClearsCut, Commits, CommitsCut, Copy, Delete, Edit, Log, Move, Read, Revert, Show, Status, Update}
+use Rattle.model.specs.Machine.{Add, Call, Clears, ClearsCut, Commits, CommitsCut, Copy, Delete, Edit, Log, Move, Panel, Read, Release, Revert, Show, Status, Update}
 use Rattle.model.specs.Refusals.{Clear, Condition, conditions, firstOf, tailConditions}
 use Rattle.laws.proofs.Conditions.{clear-first}
 use Rattle.local.specs.Local.{copySide, localBy, localOut}
@@ -29,6 +29,8 @@ Local (Log R i) = ⊥
 Local Clears = ⊥
 Local (CommitsCut stamp mask n) = ⊥
 Local (ClearsCut n) = ⊥
+Local (Release R seat stamp) = ⊥
+Local (Panel R i) = ⊥
 
 module _ (store copy : Bytes) where
   same-conditions : (c : Call) → Local c → conditions (sideIn store copy) c ≡ conditions (copySide copy) c
@@ -47,6 +49,8 @@ module _ (store copy : Bytes) where
   same-conditions Clears k = absurd k
   same-conditions (CommitsCut stamp mask n) k = absurd k
   same-conditions (ClearsCut n) k = absurd k
+  same-conditions (Release R seat stamp) k = absurd k
+  same-conditions (Panel R i) k = absurd k
 
   no-tail : (c : Call) → Local c → Clear (tailConditions (sideIn store copy) c)
   no-tail (Add i x) k = tt
@@ -64,6 +68,8 @@ module _ (store copy : Bytes) where
   no-tail Clears k = absurd k
   no-tail (CommitsCut stamp mask n) k = absurd k
   no-tail (ClearsCut n) k = absurd k
+  no-tail (Release R seat stamp) k = absurd k
+  no-tail (Panel R i) k = absurd k
 
   same-deed : (o : Option ℕ) (c : Call) → Local c → changeBy o store copy c ≡ calls.out (localBy o copy c .says) store (localBy o copy c .copy)
   same-deed (some n) c k = refl
@@ -82,6 +88,8 @@ module _ (store copy : Bytes) where
   same-deed none Clears k = absurd k
   same-deed none (CommitsCut stamp mask n) k = absurd k
   same-deed none (ClearsCut n) k = absurd k
+  same-deed none (Release R seat stamp) k = absurd k
+  same-deed none (Panel R i) k = absurd k
 
   -- THE STATEMENT: where none of refusals 1 to 6 holds
   pub local-call : (c : Call) → Local c → Clear (storeConditions store) → Clear (copyConditions store copy)

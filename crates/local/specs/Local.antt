@@ -14,7 +14,7 @@ use Rattle.model.specs.declared.Answer.{Answer as TheAnswer}
 
 -- the copy's side, beside an empty store
 abbrev pub copySide : Bytes → Side
-copySide copy = record { seat = seatOf copy; blocks = 0; used = 0; tail = 0; history = []; entries = entriesOf copy }
+copySide copy = record { seat = seatOf copy; blocks = 0; used = 0; tail = 0; history = []; marks = []; entries = entriesOf copy }
 
 -- the answer, and the copy afterwards
 pub record LocalOut : Type 0 where

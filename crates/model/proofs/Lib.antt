@@ -4,3 +4,5 @@ pub mod Scripts
 pub mod OnBytes
 pub mod Layouts
 pub mod Orders
+pub mod Marks
+pub mod Releases

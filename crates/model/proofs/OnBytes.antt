@@ -15,7 +15,7 @@ use Rattle.model.specs.Entry.{empty, normal}
 use Rattle.model.specs.History.{Bytes, tree}
 use Rattle.model.specs.Layout.{means, next}
 use Rattle.model.specs.Machine.{Add, Answer, Commits, bytes, done, logged, refused, revision}
-use Rattle.model.specs.Pass.{laid, noChanges, ok, okFrom, readAll, readFrom, rule, stated, tablesAfter, tablesOf}
+use Rattle.model.specs.Pass.{laid, logAll, logFrom, noChanges, ok, okFrom, readAll, readFrom, rule, stated, tablesAfter, tablesOf}
 use Rattle.model.specs.Refusals.{firstOf}
 use Rattle.model.specs.Run.{Turn}
 use Rattle.model.specs.Store.{bareIn, blankFrom, blocksOf, checked, checkedBut, filledIn, historyOf, lawful, lawfulBut, stemIn, wholeIn}
@@ -75,5 +75,5 @@ pub record OnBytes : Type 0 where
   pub before : unfinished ≡ refused 3 ∷ refused 14 ∷ []
 
 pub on-bytes : OnBytes
-unfolding tree bytesAt next means ok okFrom readAll readFrom stated noChanges rule laid padded checksOf encode sealed shaped parse checked lawful blocksOf historyOf tablesOf tablesAfter parseCopyBlock copyBytes copyBlocksOf copyOk seatOf entriesOf refusalOf storeRefusal changeCall readPlace logCall createCopy checkedBut lawfulBut filledIn wholeIn stemIn blankFrom bareIn
+unfolding tree bytesAt next means ok okFrom readAll readFrom logAll logFrom stated noChanges rule laid padded checksOf encode sealed shaped parse checked lawful blocksOf historyOf tablesOf tablesAfter parseCopyBlock copyBytes copyBlocksOf copyOk seatOf entriesOf refusalOf storeRefusal changeCall readPlace logCall createCopy checkedBut lawfulBut filledIn wholeIn stemIn blankFrom bareIn
 on-bytes = record { answer = refl; store = refl; look = refl; place = refl; order = refl; tail = refl; before = refl }

@@ -7,10 +7,11 @@ use mathlib.Core.Path.{_≡_, ap, refl}
 use native.Mathlib.Omega.{arith}
 use lib.Dec.{lit≤}
 use lib.ListN.{getD, replicate, set}
-use Rattle.model.specs.Blocks.{Block, Line, adds, blank, bytesAt, changes, commit, content, copies, deletes, label}
+use Rattle.model.specs.Blocks.{Block, Line, adds, blank, bytesAt, changes, commit, content, copies, deletes, label, mark}
 use Rattle.model.specs.History.{Change, Commit, add, change, copy, delete, nothing, tree}
 use Rattle.model.specs.Layout.{means, next}
-use Rattle.model.specs.Order.{InOrder, RisingFrom, commitsBlocks}
+use Rattle.model.specs.Log.{aCommit, aMark, released}
+use Rattle.model.specs.Order.{InOrder, RisingFrom, logBlocks}
 use Rattle.model.specs.Pass.{laid, noChanges, ok, okFrom, readAll, readFrom, rule, stated, tablesAfter, tablesOf}
 use Rattle.model.specs.Writing.{lineOf, withCommit}
 
@@ -52,8 +53,8 @@ rises : (p : ℕ) → RisingFrom 0 (lines p)
 rises p = (lit≤ tt, (lit≤ tt, (lit≤ tt, (lit≤ tt, (lit≤ tt, tt)))))
 
 pub record Orders : Type 0 where
-  -- both commits as the history gives them, and the second one as commit writes it on `other`, whose blocks stay
-  pub written : commitsBlocks [] (replicate 32 0 ∷ []) 1 (first ∷ second ∷ []) ≡ ordered
+  -- both commits as the history gives them, a release among them at its place, and the second commit as it is written on `other`, whose blocks stay
+  pub written : logBlocks [] (replicate 32 0 ∷ []) 1 (aCommit first ∷ aCommit second ∷ aMark (released 1 3 9) ∷ []) ≡ ordered ++ (mark (released 1 3 9) ∷ [])
   pub committed : withCommit (other ++ replicate 6 blank) second ≡ other ++ (behind 3 ++ replicate 2 blank)
   -- `other` is accepted, and read as the history of the first commit
   pub accepted : ok (other ++ replicate 6 blank) ≡ true

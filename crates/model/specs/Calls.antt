@@ -15,12 +15,13 @@ use Rattle.model.specs.Codec.{joined}
 use Rattle.model.specs.Entry.{empty, ownBytes}
 use Rattle.model.specs.Fitting.{fitsStore}
 use Rattle.model.specs.History.{Bytes, Commit, last, namer}
-use Rattle.model.specs.Machine.{Add, Answer, Call, Clears, ClearsCut, Commits, CommitsCut, Copy, Delete, Edit, Log, Move, Read, Revert, Show, Side, Status, Update, bytes, doing, done, entry, newCommit, refused, stopped}
+use Rattle.model.specs.Log.{Mark, panelRevision}
+use Rattle.model.specs.Machine.{Add, Answer, Call, Clears, ClearsCut, Commits, CommitsCut, Copy, Delete, Edit, Log, Move, Panel, Read, Release, Revert, Show, Side, Status, Update, bytes, doing, done, entry, newCommit, refused, stopped}
 use Rattle.model.specs.Refusals.{Condition, _when_, conditions, firstOf, tailConditions}
-use Rattle.model.specs.Run.{Turn, asked}
-use Rattle.model.specs.Store.{bareOf, blankFrom, blanks, blockCount, blockUsed, checkedBut, front, lawfulBut, storeBlocks, storeHistory, tailOf, usedOf}
+use Rattle.model.specs.Run.{Turn, asked, askedMark}
+use Rattle.model.specs.Store.{bareOf, blankFrom, blanks, blockCount, blockUsed, checkedBut, front, lawfulBut, storeBlocks, storeHistory, storeMarks, tailOf, usedOf}
 use Rattle.model.specs.WorkCopy.{copyBytes, copyOk, entriesOf, seatOf}
-use Rattle.model.specs.Writing.{newBlocks, withCommit}
+use Rattle.model.specs.Writing.{newBlocks, withCommit, withMark}
 
 -- ---- what the machine sees of the buffers
 
@@ -31,12 +32,13 @@ sideIn store copy = record {
   used = usedOf store;
   tail = tailOf store;
   history = storeHistory store;
+  marks = storeMarks store;
   entries = entriesOf copy;
 }
 
--- "read and log take the store", and so does clearing: no seat, no entries
+-- "read and log take the store", and so do clearing, release and panel reading: no seat, no entries
 abbrev pub storeSide : Bytes → Side
-storeSide store = record { seat = 0; blocks = blockCount store; used = usedOf store; tail = tailOf store; history = storeHistory store; entries = [] }
+storeSide store = record { seat = 0; blocks = blockCount store; used = usedOf store; tail = tailOf store; history = storeHistory store; marks = storeMarks store; entries = [] }
 
 -- ---- refusals 1 to 6
 
@@ -62,7 +64,7 @@ abbrev pub bothConditions : Bytes → Bytes → Call → List Condition
 bothConditions store copy c = storeConditions store ++ (tailConditions (sideIn store copy) c ++ (copyConditions store copy ++ conditions (sideIn store copy) c))
 
 abbrev pub storeOnlyConditions : Bytes → Call → List Condition
-storeOnlyConditions store c = storeConditions store ++ conditions (storeSide store) c
+storeOnlyConditions store c = storeConditions store ++ (tailConditions (storeSide store) c ++ conditions (storeSide store) c)
 
 -- the number that refuses a call, if one does
 unfoldable pub refusalOf : Bytes → Bytes → Call → Option ℕ
@@ -182,6 +184,23 @@ clearedBy none store n =
 unfoldable pub clearCutCall : Bytes → ℕ → Created
 clearCutCall store n = clearedBy (storeRefusal store (ClearsCut n)) store n
 
+-- ---- release, on the store alone: "its call takes all three and the store alone, as panel reading does"
+
+-- the store with the mark that a call asks for, if any: in the place of the first zero block
+abbrev pub storeMarked : Bytes → List Mark → Bytes
+storeMarked store [] = store
+storeMarked store (m ∷ ms) = joined fieldsOf (withMark (storeBlocks store) m)
+
+abbrev pub markBy : Option ℕ → Bytes → Call → Created
+markBy (some n) store c = record { says = refused n; buffer = store }
+markBy none store c = record { says = doing (storeSide store) c .0; buffer = storeMarked store (askedMark (storeSide store) c) }
+
+unfoldable pub markCall : Bytes → Call → Created
+markCall store c = markBy (storeRefusal store c) store c
+
+abbrev pub releaseCall : Bytes → ℕ → ℕ → ℕ → Created
+releaseCall store R seat stamp = markCall store (Release R seat stamp)
+
 -- ---- looking: no buffer changes
 
 -- "answers the refusal, or buffer, place and length"; a place is a byte's number in that buffer. W3: of a part of the store also the last commit that names the sheet, up to the
@@ -212,6 +231,10 @@ foundPlace store R i = blockPlace store (blockUsed store R i) (namer (storeHisto
 -- "Read (R, i) hands back the sheet's bytes as a part of the store buffer .. an empty sheet shows the empty part at byte 16 of its block."
 unfoldable pub readPlace : Bytes → ℕ → ℕ → Place
 readPlace store R i = placeBy (storeRefusal store (Read R i)) (foundPlace store R i)
+
+-- "A panel reading R gets what read, or its companion, gives at the greatest released revision up to R"
+unfoldable pub panelPlace : Bytes → ℕ → ℕ → Place
+panelPlace store R i = placeBy (storeRefusal store (Panel R i)) (foundPlace store (panelRevision (storeMarks store) R) i)
 
 -- "the seat's own bytes where the entry is normal, added or copied, otherwise the last revision's bytes from the store"
 abbrev pub ownPlace : Option Bytes → ℕ → Place → Place
@@ -250,8 +273,15 @@ heard store copy (inCopy p m) = bytes (take m (drop p copy)) (numberAt (inCopy p
 abbrev pub readCall : Bytes → ℕ → ℕ → Answer
 readCall store R i = heard store [] (readPlace store R i)
 
+abbrev pub panelCall : Bytes → ℕ → ℕ → Answer
+panelCall store R i = heard store [] (panelPlace store R i)
+
 abbrev pub showCall : Bytes → Bytes → ℕ → Answer
 showCall store copy i = heard store copy (showPlace store copy i)
+
+-- a call on the store alone leaves the copy
+abbrev pub beside : Created → Bytes → Out
+beside r copy = out (r .says) (r .buffer) copy
 
 abbrev pub call : Bytes → Bytes → Call → Out
 call store copy (Add i x) = addCall store copy i x
@@ -269,6 +299,8 @@ call store copy (Log R i) = out (logCall store R i) store copy
 call store copy Clears = out (clearCall store .says) (clearCall store .buffer) copy
 call store copy (CommitsCut stamp mask n) = commitCutCall store copy stamp mask n
 call store copy (ClearsCut n) = out (clearCutCall store n .says) (clearCutCall store n .buffer) copy
+call store copy (Release R seat stamp) = beside (releaseCall store R seat stamp) copy
+call store copy (Panel R i) = out (panelCall store R i) store copy
 
 -- the conditions of a call in the document's order, on the buffers that it takes
 abbrev pub conditionsIn : Bytes → Bytes → Call → List Condition
@@ -287,6 +319,8 @@ conditionsIn store copy (Log R i) = storeOnlyConditions store (Log R i)
 conditionsIn store copy Clears = storeOnlyConditions store Clears
 conditionsIn store copy (CommitsCut stamp mask n) = bothConditions store copy (CommitsCut stamp mask n)
 conditionsIn store copy (ClearsCut n) = storeOnlyConditions store (ClearsCut n)
+conditionsIn store copy (Release R seat stamp) = storeOnlyConditions store (Release R seat stamp)
+conditionsIn store copy (Panel R i) = storeOnlyConditions store (Panel R i)
 
 -- ---- a list of calls on one store and four working copies, each on what the one before left
 

@@ -1,6 +1,7 @@
 -- W6 of document 02, the statement: "At whichever block the power fails, the store found is accepted, its history is the one before or the one with the whole commit, and the latter exactly
 -- if the commit block is new. Clearing, even after any number of cut clearings, then gives a store without a tail and the same history."
--- It is stated over the calls that stop after n block writes, so that it speaks of what the code does. Its proof is in laws/proofs/CutCommits.
+-- It is stated over the calls that stop after n block writes, so that it speaks of what the code does. W9: "W6's cut rule includes the block, a release standing or not."; a release has
+-- one write and no call with n. Its proof is in laws/proofs/CutCommits, CutReleases and CutRule.
 -- Assumes nothing.
 use Prim.Native.Nat.{_+_, _-_, _<_, _^_, _≤_, suc, zero, ℕ}
 use mathlib.Core.List.{List, [], _++_, _∷_, map}
@@ -10,12 +11,13 @@ use mathlib.Core.Path.{_≡_}
 use lib.ListN.{length, take}
 use Rattle.block.specs.Buffer.{blockAt, withBlock}
 use Rattle.model.specs.Blocks.{Line, commit, content}
-use Rattle.model.specs.Calls.{bothConditions, clearCall, clearCutCall, commitCall, commitCutCall, commitWrites, out, sideIn, storeConditions, writtenFrom}
+use Rattle.model.specs.Calls.{bothConditions, clearCall, clearCutCall, commitCall, commitCutCall, commitWrites, out, releaseCall, sideIn, storeConditions, storeOnlyConditions, writtenFrom}
 use Rattle.model.specs.History.{Bytes, Commit, last}
-use Rattle.model.specs.Machine.{Commits, done, newCommit, refused, stopped}
+use Rattle.model.specs.Log.{Log, aMark, released}
+use Rattle.model.specs.Machine.{Commits, Release, done, newCommit, refused, stopped}
 use Rattle.model.specs.Refusals.{Clear, firstOf}
 use Rattle.model.specs.Shows.{Accepted}
-use Rattle.model.specs.Store.{bareOf, blockCount, storeHistory, tailOf, usedOf}
+use Rattle.model.specs.Store.{bareOf, blockCount, storeHistory, storeLog, storeMarks, tailOf, usedOf}
 use Rattle.model.specs.Tail.{Junk, Tailed}
 
 -- ---- block writes, and a power cut in one
@@ -60,6 +62,7 @@ Clearings (suc k) f g = (mid : Bytes) × FoundClearing f mid × Clearings k mid 
 pub record Restored (f g : Bytes) : Type 0 where
   pub accepted : firstOf (storeConditions g) ≡ none
   pub history : storeHistory g ≡ storeHistory f
+  pub log : storeLog g ≡ storeLog f
   pub clears : clearCall g ≡ record { says = done; buffer = bareOf f }
   pub bare : Tailed (blockCount f) (bareOf f) (storeHistory f) (usedOf f) 0
   -- no seat is shut out
@@ -107,6 +110,8 @@ module _ (store copy : Bytes) (stamp mask : ℕ) where
     pub accepted : firstOf (storeConditions f) ≡ none
     -- "its history is the one before or the one with the whole commit"
     pub history : (storeHistory f ≡ storeHistory store) ⊎ (storeHistory f ≡ storeHistory store ++ (theCommit ∷ []))
+    -- its releases are where they were
+    pub marks : storeMarks f ≡ storeMarks store
     -- "and the latter exactly if the commit block is new"
     pub exactly : (storeHistory f ≡ storeHistory store ++ (theCommit ∷ [])) ↔ (commitBlockAt f ≡ commitBlockAt (commitCall store copy stamp mask .store))
     -- no seat is shut out: a copy that was accepted with the store is accepted with the one found
@@ -125,6 +130,44 @@ module _ (store copy : Bytes) (stamp mask : ℕ) where
     pub usual : (n : ℕ) → writeCount ≤ n → commitCutCall store copy stamp mask n ≡ commitCall store copy stamp mask
     pub found : (f : Bytes) → FoundCommitting f → FoundCommit f
 
+-- ---- a release: "W6's cut rule includes the block, a release standing or not."
+
+module _ (store : Bytes) (R seat stamp : ℕ) where
+  -- one write, of block U
+  abbrev pub releaseAfter : ℕ → Bytes
+  releaseAfter zero = store
+  releaseAfter (suc n) = releaseCall store R seat stamp .buffer
+
+  abbrev pub releasePlace : ℕ → ℕ
+  releasePlace n = usedOf store
+
+  -- the store found where the power failed in this release
+  abbrev pub FoundReleasing : Bytes → Type 0
+  FoundReleasing = FoundIn releaseAfter 1 releasePlace
+
+  abbrev pub releasedLog : Log
+  releasedLog = storeLog store ++ (aMark (released R seat stamp) ∷ [])
+
+  -- the store f was found
+  pub record FoundRelease (f : Bytes) : Type 0 where
+    pub accepted : firstOf (storeConditions f) ≡ none
+    -- "a release standing or not": the commits and releases in their common order are those before, or with this release as the last
+    pub log : (storeLog f ≡ storeLog store) ⊎ (storeLog f ≡ releasedLog)
+    -- the latter exactly if the block is new
+    pub exactly : (storeLog f ≡ releasedLog) ↔ (blockAt f (usedOf store) ≡ blockAt (releaseAfter 1) (usedOf store))
+    -- it "isn't a revision itself"
+    pub history : storeHistory f ≡ storeHistory store
+    pub seats : (other : Bytes) → Accepted store other → Accepted f other
+    pub restored : (k : ℕ) (g : Bytes) → Clearings k f g → Restored f g
+    -- the store that clearing gives: the one before the release, or the finished release's, in which there is nothing to clear
+    pub back : storeLog f ≡ storeLog store → bareOf f ≡ store
+    pub whole : storeLog f ≡ releasedLog → f ≡ releaseAfter 1
+
+  -- of a release that no line refuses
+  pub record CutRelease : Type 0 where
+    pub order : Writes store releaseAfter 1 releasePlace
+    pub found : (f : Bytes) → FoundReleasing f → FoundRelease f
+
 -- THE RULE
 pub record CutRule (store copy : Bytes) : Type 0 where
   pub commits : (stamp mask : ℕ) → stamp < 2 ^ 32 → Clear (bothConditions store copy (Commits stamp mask)) → CutCommit store copy stamp mask
@@ -132,6 +175,7 @@ pub record CutRule (store copy : Bytes) : Type 0 where
   -- a refusal comes whatever n is
   pub refuses : (stamp mask n r : ℕ) → commitCall store copy stamp mask .says ≡ refused r → commitCutCall store copy stamp mask n ≡ out (refused r) store copy
   pub keeps : (n r : ℕ) → clearCall store .says ≡ refused r → clearCutCall store n ≡ record { says = refused r; buffer = store }
+  pub releases : (R seat stamp : ℕ) → stamp < 2 ^ 32 → Clear (storeOnlyConditions store (Release R seat stamp)) → CutRelease store R seat stamp
 
 abbrev pub CutAnywhere : Type 0
 CutAnywhere = (store copy : Bytes) → CutRule store copy

@@ -1,14 +1,15 @@
--- What holds of the machine whatever calls were made: the history is sound, every entry of every seat fits, and U follows from the history and never passes N.
+-- What holds of the machine whatever calls were made: the history is sound, every entry of every seat fits, and U is more than the last revision and never passes N.
 -- Assumes nothing.
-use Prim.Native.Nat.{_+_, _<_, _^_, _≤_, ℕ}
+use Prim.Native.Nat.{_<_, _^_, _≤_, ℕ}
 use mathlib.Core.Bool.{false, true}
-use mathlib.Core.List.{[], _++_, _∷_}
+use mathlib.Core.List.{[]}
 use mathlib.Core.Path.{_≡_}
 use lib.ListN.{getD, length, take}
 use Rattle.block.specs.Lists.{All}
 use Rattle.model.specs.Entry.{Entry, added, copied, deleted, empty, normal}
 use Rattle.model.specs.History.{Bytes, Change, Commit, History, add, change, changeOf, copy, delete, last, newest, noCommit, nothing, present, sheet}
-use Rattle.model.specs.Machine.{State, blocksFor, count}
+use Rattle.model.specs.Log.{Log, Mark, Marked, Placed, commits, marks, released}
+use Rattle.model.specs.Machine.{State, count}
 use Rattle.model.specs.Rows.{total}
 
 -- ---- entries that fit, with the limits of the layout
@@ -54,14 +55,15 @@ pub record Made (h : History) (c : Commit) : Type 0 where
 abbrev pub Sound : History → Type 0
 Sound h = (r : ℕ) → r < length h → Made (take r h) (getD h r noCommit)
 
--- the blocks that these commits take, after those before
-abbrev pub takes : History → History → ℕ
-takes before [] = 0
-takes before (c ∷ h) = blocksFor before (c .changes) + takes (before ++ (c ∷ [])) h
+-- a mark that is right after revision n: "It names a revision from 1 to the last before it"; seats are 1 to 4, and a stamp has 32 bits
+abbrev pub MadeMark : ℕ → Mark → Type 0
+MadeMark n (released R seat stamp) = (1 ≤ R) × (R ≤ n) × (1 ≤ seat) × (seat ≤ 4) × (stamp < 2 ^ 32)
 
--- U: the label's block, and k + 1 for each commit
-abbrev pub usedBy : History → ℕ
-usedBy h = 1 + takes [] h
+-- a log whose commits are sound, each of whose marks is right at its place, and whose marks go together
+pub record SoundLog (g : Log) : Type 0 where
+  pub sound : Sound (commits g)
+  pub each : All (λ (p : Placed). MadeMark (p .after) (p .mark)) (marks g)
+  pub together : Marked (marks g)
 
 -- ---- what every step keeps
 
@@ -70,5 +72,6 @@ pub record Kept (s : State) : Type 0 where
   pub fits : (k i : ℕ) → FitsAt (s .history) i (getD (getD (s .seats) k []) i empty)
   pub four : length (s .seats) ≡ 4
   pub wide : (k : ℕ) → k < 4 → length (getD (s .seats) k []) ≡ 32
-  pub used : s .used ≡ usedBy (s .history)
+  -- all that is wanted of U: revisions fit two bytes
+  pub used : last (s .history) < s .used
   pub room : s .used ≤ s .blocks

@@ -8,8 +8,9 @@ use mathlib.Core.Path.{_≡_}
 use lib.Dec.{eqb}
 use lib.ListN.{getD, length, replicate, set}
 use Rattle.block.specs.Lists.{All}
-use Rattle.model.specs.Blocks.{Action, Block, Line, adds, blank, bytesAt, changes, commit, content, copies, deletes, label}
+use Rattle.model.specs.Blocks.{Action, Block, Line, adds, blank, bytesAt, changes, commit, content, copies, deletes, label, mark}
 use Rattle.model.specs.History.{Change, Commit, History, add, change, copy, delete, nothing}
+use Rattle.model.specs.Log.{Log, Mark, aCommit, aMark, commits, released}
 
 -- a table has for each of the 32 sheets the number of the block that it uses, or 0 where the tree lacks it
 abbrev pub Table : Type 0
@@ -108,15 +109,25 @@ module _ (look : ℕ → List ℕ) (at k : ℕ) (tables : List Table) where
     pub meant : All (λ (l : Line). getD (c .changes) (l .sheet) nothing ≡ means look l) ls
     pub others : (i : ℕ) → named i ls ≡ 0 → getD (c .changes) i nothing ≡ nothing
 
--- "Then come the commits in order, then all-zero blocks to the end. Commit R is its content blocks followed by one commit block."
-unfoldable pub LaysFrom : (ℕ → List ℕ) → ℕ → List Table → History → List Block → Type 0
+-- a mark may stand where these trees are known: "It names a revision from 1 to the last before it"; seats are 1 to 4
+abbrev pub Stands : List Table → Mark → Type 0
+Stands tables (released R seat stamp) = ((1 ≤ R) × (R < length tables)) × ((1 ≤ seat) × (seat ≤ 4))
+
+-- "Then come the commits in order, then all-zero blocks to the end. Commit R is its content blocks followed by one commit block." A mark is one block, "may follow any
+-- commit or release", and moves no tree
+unfoldable pub LaysFrom : (ℕ → List ℕ) → ℕ → List Table → Log → List Block → Type 0
 LaysFrom look at tables [] bs = All (λ (b : Block). b ≡ blank) bs
-LaysFrom look at tables (c ∷ h) bs =
+LaysFrom look at tables (aMark m ∷ g) bs = (rest : List Block) × (bs ≡ mark m ∷ rest) × Stands tables m × LaysFrom look (suc at) tables g rest
+LaysFrom look at tables (aCommit c ∷ g) bs =
     (contents : List (List ℕ)) × (ls : List Line) × (rest : List Block)
     × (bs ≡ map (content (length tables)) contents ++ (commit (length tables) (c .seat) (c .stamp) ls ∷ rest))
     × Laid look at (length contents) tables ls c
-    × LaysFrom look (suc (at + length contents)) (tables ++ (next ls (latest tables) ∷ [])) h rest
+    × LaysFrom look (suc (at + length contents)) (tables ++ (next ls (latest tables) ∷ [])) g rest
 
 -- "Store block 0 is the label"
+unfoldable pub LaysLog : List Block → Log → Type 0
+LaysLog bs g = (rest : List Block) × (bs ≡ label ∷ rest) × LaysFrom (bytesAt bs) 1 (replicate 32 0 ∷ []) g rest
+
+-- the blocks are the layout of the commits h, with any marks among them
 unfoldable pub Lays : List Block → History → Type 0
-Lays bs h = (rest : List Block) × (bs ≡ label ∷ rest) × LaysFrom (bytesAt bs) 1 (replicate 32 0 ∷ []) h rest
+Lays bs h = (g : Log) × (commits g ≡ h) × LaysLog bs g

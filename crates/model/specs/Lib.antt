@@ -1,4 +1,5 @@
 pub mod History
+pub mod Log
 pub mod Entry
 pub mod Rows
 pub mod Machine

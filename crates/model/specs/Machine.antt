@@ -9,15 +9,17 @@ use lib.Dec.{eqb, leb}
 use lib.ListN.{getD, replicate, set}
 use Rattle.model.specs.Entry.{Entry, added, changeFor, copied, deleted, empty, modified, normal, ownBytes}
 use Rattle.model.specs.History.{Bytes, Change, Commit, History, add, change, changeOf, commitAt, copy, delete, isBytes, last, namedAfter, namer, names, newest, nothing, present, sheet}
+use Rattle.model.specs.Log.{Mark, Placed, panelRevision, released}
 use Rattle.model.specs.Rows.{rows, total}
 
 -- "the store's block count N; used blocks U, 1 when fresh; the history, a list of commits, empty when fresh; for each seat 32 entries"; and the number of blocks in the
--- store's tail, which are none of the U
+-- store's tail, which are none of the U; and the marks, which follow the commits
 pub record State : Type 0 where
   pub blocks : ℕ
   pub used : ℕ
   pub tail : ℕ
   pub history : History
+  pub marks : List Placed
   pub seats : List (List Entry)
 
 -- what a call of one seat sees and changes: the store, and that seat's own entries
@@ -27,10 +29,11 @@ pub record Side : Type 0 where
   pub used : ℕ
   pub tail : ℕ
   pub history : History
+  pub marks : List Placed
   pub entries : List Entry
 
 -- the calls with their arguments: sheet and bytes; from and to; stamp and mask; mask and revision; revision and sheet. `Clears` clears the tail. `CommitsCut` (stamp, mask, n)
--- and `ClearsCut` (n) stop after n block writes
+-- and `ClearsCut` (n) stop after n block writes. `Release` (revision, seat, stamp) releases, and `Panel` (revision, sheet) is a panel's reading
 pub data Call : Type 0 where
   Add Edit : ℕ → Bytes → Call
   Delete : ℕ → Call
@@ -44,6 +47,8 @@ pub data Call : Type 0 where
   Clears : Call
   CommitsCut : ℕ → ℕ → ℕ → Call
   ClearsCut : ℕ → Call
+  Release : ℕ → ℕ → ℕ → Call
+  Panel : ℕ → ℕ → Call
 
 -- what a call answers: the number of a refusal; that it is done; that it stopped (W6); a commit's revision; a sheet's bytes, and a status, each with the last commit that names the
 -- sheet (W3); seat, stamp, m, action, source sheet and source revision of a commit
@@ -68,23 +73,23 @@ refusal (logged seat stamp m a i R) = none
 
 -- "used blocks U, 1 when fresh; the history .. empty when fresh; .. Fresh entries are empty."
 abbrev pub fresh : ℕ → State
-fresh n = record { blocks = n; used = 1; tail = 0; history = []; seats = replicate 4 (replicate 32 empty) }
+fresh n = record { blocks = n; used = 1; tail = 0; history = []; marks = []; seats = replicate 4 (replicate 32 empty) }
 
 -- the side of seat k, and a state with the side of seat k put back
 abbrev pub sideOf : State → ℕ → Side
-sideOf s k = record { seat = k; blocks = s .blocks; used = s .used; tail = s .tail; history = s .history; entries = getD (s .seats) (k - 1) [] }
+sideOf s k = record { seat = k; blocks = s .blocks; used = s .used; tail = s .tail; history = s .history; marks = s .marks; entries = getD (s .seats) (k - 1) [] }
 
 abbrev pub put : State → ℕ → Side → State
-put s k d = record { blocks = d .blocks; used = d .used; tail = d .tail; history = d .history; seats = set (s .seats) (k - 1) (d .entries) }
+put s k d = record { blocks = d .blocks; used = d .used; tail = d .tail; history = d .history; marks = d .marks; seats = set (s .seats) (k - 1) (d .entries) }
 
 abbrev pub entry : Side → ℕ → Entry
 entry d i = getD (d .entries) i empty
 
 abbrev pub withEntries : Side → List Entry → Side
-withEntries d es = record { seat = d .seat; blocks = d .blocks; used = d .used; tail = d .tail; history = d .history; entries = es }
+withEntries d es = record { seat = d .seat; blocks = d .blocks; used = d .used; tail = d .tail; history = d .history; marks = d .marks; entries = es }
 
 abbrev pub withTail : Side → ℕ → Side
-withTail d t = record { seat = d .seat; blocks = d .blocks; used = d .used; tail = t; history = d .history; entries = d .entries }
+withTail d t = record { seat = d .seat; blocks = d .blocks; used = d .used; tail = t; history = d .history; marks = d .marks; entries = d .entries }
 
 abbrev pub withEntry : Side → ℕ → Entry → Side
 withEntry d i e = withEntries d (set (d .entries) i e)
@@ -159,6 +164,7 @@ committing d stamp mask = record {
   used = d .used + blocksFor (d .history) (commitChanges (d .history) mask (d .entries));
   tail = d .tail;
   history = d .history ++ (newCommit d stamp mask ∷ []);
+  marks = d .marks;
   entries = committed (d .history) mask (d .entries);
 }
 
@@ -251,7 +257,23 @@ source (copy s r x) = (s, r)
 abbrev pub logOf : Commit → ℕ → Answer
 logOf c i = logged (c .seat) (c .stamp) (total count (c .changes)) (number (changeOf c i)) (source (changeOf c i) .0) (source (changeOf c i) .1)
 
--- W3: read gives the number at its R, show from the store and status that of the last tree.
+-- a mark "isn't a revision itself"; "its one block, by which U grows"
+abbrev pub marking : Side → Mark → Side
+marking d m = record {
+  seat = d .seat;
+  blocks = d .blocks;
+  used = d .used + 1;
+  tail = d .tail;
+  history = d .history;
+  marks = d .marks ++ (record { after = last (d .history); mark = m } ∷ []);
+  entries = d .entries;
+}
+
+-- "A panel reading R gets what read .. gives at the greatest released revision up to R"; 0 where there is none, and tree 0 has no sheet
+abbrev pub panelSheet : Side → ℕ → ℕ → Option Bytes
+panelSheet d R i = sheet (d .history) (panelRevision (d .marks) R) i
+
+-- W3: read gives the number at its R, a panel's reading at the revision that it reads, show from the store and status that of the last tree.
 -- W6: "it stops after n block writes, the working copy untouched, and answers that it stopped; with n enough for all its writes it is the usual call": a commit has k + 1 writes,
 -- clearing one for each block of the tail
 abbrev pub doing : Side → Call → Answer × Side
@@ -272,3 +294,5 @@ doing d Clears = (done, withTail d 0)
 doing d (CommitsCut stamp mask n) =
     cond (leb (blocksFor (d .history) (commitChanges (d .history) mask (d .entries))) n) (revision (suc (last (d .history))), committing d stamp mask) (stopped, withTail d n)
 doing d (ClearsCut n) = cond (leb (d .tail) n) (done, withTail d 0) (stopped, withTail d (d .tail - n))
+doing d (Release R seat stamp) = (done, marking d (released R seat stamp))
+doing d (Panel R i) = (asBytes (namer (d .history) (panelRevision (d .marks) R) i) (panelSheet d R i), d)

@@ -8,10 +8,12 @@ use mathlib.Core.List.{List, [], _++_, _∷_, map}
 use mathlib.Core.Path.{_≡_}
 use lib.Dec.{leb}
 use lib.ListN.{getD, length, replicate, take}
-use Rattle.model.specs.Blocks.{Block, Line, adds, blank, changes, commit, content, copies, deletes, fieldsOf, label}
+use Rattle.model.specs.Blocks.{Block, Line, adds, blank, changes, commit, content, copies, deletes, fieldsOf, label, mark}
 use Rattle.model.specs.Codec.{joined}
 use Rattle.model.specs.History.{Bytes, Change, Commit, History, add, change, copy, delete, isBytes, last, nothing, sheet}
 use Rattle.model.specs.Layout.{Table}
+use Rattle.model.specs.Log.{Log, aCommit, aMark}
+use Rattle.model.specs.Machine.{blocksFor}
 use Rattle.model.specs.Pass.{grown, tablesOf}
 use Rattle.model.specs.Store.{blockCount, storeBlocks, storeHistory, usedOf}
 use Rattle.model.specs.Writing.{Plan, contentsFor, fresh, linesFor, shared, skip}
@@ -64,12 +66,23 @@ module _ (h : History) (tables : List Table) where
   abbrev pub commitBlocks : ℕ → Commit → List Block
   commitBlocks at c = map (content (suc (last h))) (contentsAfter c) ++ (commit (suc (last h)) (c .seat) (c .stamp) (linesAfter at c) ∷ [])
 
--- the blocks of the commits g that follow h, from block `at` on
-abbrev pub commitsBlocks : History → List Table → ℕ → History → List Block
-commitsBlocks h tables at [] = []
-commitsBlocks h tables at (c ∷ g) =
+-- the blocks of the commits and marks g that follow the commits h, from block `at` on. A mark is one block and moves no tree
+abbrev pub logBlocks : History → List Table → ℕ → Log → List Block
+logBlocks h tables at [] = []
+logBlocks h tables at (aCommit c ∷ g) =
     let new = commitBlocks h tables at c in
-    new ++ commitsBlocks (h ++ (c ∷ [])) (grown tables (linesAfter h tables at c)) (at + length new) g
+    new ++ logBlocks (h ++ (c ∷ [])) (grown tables (linesAfter h tables at c)) (at + length new) g
+logBlocks h tables at (aMark m ∷ g) = mark m ∷ logBlocks h tables (suc at) g
+
+-- the blocks that they take: k + 1 for a commit, one for a mark
+abbrev pub takes : History → Log → ℕ
+takes h [] = 0
+takes h (aCommit c ∷ g) = blocksFor h (c .changes) + takes (h ++ (c ∷ [])) g
+takes h (aMark m ∷ g) = suc (takes h g)
+
+-- U: the label's block and those
+abbrev pub usedBy : Log → ℕ
+usedBy g = 1 + takes [] g
 
 -- ---- the bytes
 
@@ -77,12 +90,12 @@ commitsBlocks h tables at (c ∷ g) =
 abbrev pub filled : ℕ → List Block → List Block
 filled n bs = bs ++ replicate (n - length bs) blank
 
--- THE BYTES OF A STORE of N blocks that holds h as commit writes it: the label, each commit's content blocks and commit block, all-zero blocks
-unfoldable pub storeBytes : ℕ → History → Bytes
-storeBytes N h = joined fieldsOf (label ∷ filled (N - 1) (commitsBlocks [] (replicate 32 0 ∷ []) 1 h))
+-- THE BYTES OF A STORE of N blocks that holds g as commit and release write it: the label, each commit's content blocks and commit block, each release's block, all-zero blocks
+unfoldable pub storeBytes : ℕ → Log → Bytes
+storeBytes N g = joined fieldsOf (label ∷ filled (N - 1) (logBlocks [] (replicate 32 0 ∷ []) 1 g))
 
--- a store, in whatever order it is written, with the commits g added: its used blocks as they are, the blocks of g, all-zero blocks, none of a tail
-unfoldable pub continued : Bytes → History → Bytes
+-- a store, in whatever order it is written, with the commits and marks g added: its used blocks as they are, the blocks of g, all-zero blocks, none of a tail
+unfoldable pub continued : Bytes → Log → Bytes
 continued store g =
     take (512 * usedOf store) store
-    ++ joined fieldsOf (filled (blockCount store - usedOf store) (commitsBlocks (storeHistory store) (tablesOf (storeBlocks store)) (usedOf store) g))
+    ++ joined fieldsOf (filled (blockCount store - usedOf store) (logBlocks (storeHistory store) (tablesOf (storeBlocks store)) (usedOf store) g))

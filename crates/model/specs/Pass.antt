@@ -9,8 +9,9 @@ use mathlib.Core.Option.{Option, none, some}
 use lib.Dec.{eqb, leb, ltb}
 use lib.ListN.{getD, length, replicate}
 use Rattle.block.specs.Lists.{all, allFrom, same}
-use Rattle.model.specs.Blocks.{Action, Block, Line, adds, blank, bytesAt, changes, commit, content, copies, deletes, label}
+use Rattle.model.specs.Blocks.{Action, Block, Line, adds, blank, bytesAt, changes, commit, content, copies, deletes, label, mark}
 use Rattle.model.specs.History.{Change, Commit, History, nothing}
+use Rattle.model.specs.Log.{Log, Mark, aCommit, aMark, released}
 use Rattle.model.specs.Layout.{Table, latest, means, named, next, pointed, puts, user}
 
 abbrev pub noneTwice : List Line → Bool
@@ -21,6 +22,7 @@ abbrev pub isBlank : Block → Bool
 isBlank label = false
 isBlank (content r b) = false
 isBlank (commit r s t ls) = false
+isBlank (mark m) = false
 isBlank blank = true
 
 module _ (look : ℕ → List ℕ) (at k : ℕ) (tables : List Table) where
@@ -64,6 +66,10 @@ stated look seat stamp ls = record { seat = seat; stamp = stamp; changes = puts 
 abbrev pub grown : List Table → List Line → List Table
 grown tables ls = tables ++ (next ls (latest tables) ∷ [])
 
+-- may a mark stand where these trees are known?
+abbrev pub stands : List Table → Mark → Bool
+stands tables (released R seat stamp) = (leb 1 R && ltb R (length tables)) && (leb 1 seat && leb seat 4)
+
 -- are the blocks that are left the rest of a layout?
 unfoldable pub okFrom : (ℕ → List ℕ) → ℕ → ℕ → List Table → List Block → Bool
 okFrom look at k tables [] = eqb k 0
@@ -71,6 +77,7 @@ okFrom look at k tables (label ∷ bs) = false
 okFrom look at k tables (content r b ∷ bs) = eqb r (length tables) && okFrom look at (suc k) tables bs
 okFrom look at k tables (commit r seat stamp ls ∷ bs) =
     eqb r (length tables) && (laid look at k tables seat ls && okFrom look (suc (at + k)) 0 (grown tables ls) bs)
+okFrom look at k tables (mark m ∷ bs) = eqb k 0 && (stands tables m && okFrom look (suc at) 0 tables bs)
 okFrom look at k tables (blank ∷ bs) = eqb k 0 && all isBlank bs
 
 -- the commits that they state
@@ -79,7 +86,17 @@ readFrom look [] = []
 readFrom look (label ∷ bs) = []
 readFrom look (content r b ∷ bs) = readFrom look bs
 readFrom look (commit r seat stamp ls ∷ bs) = stated look seat stamp ls ∷ readFrom look bs
+readFrom look (mark m ∷ bs) = readFrom look bs
 readFrom look (blank ∷ bs) = []
+
+-- the commits and the marks in their common order; its commits are those of readFrom
+unfoldable pub logFrom : (ℕ → List ℕ) → List Block → Log
+logFrom look [] = []
+logFrom look (label ∷ bs) = []
+logFrom look (content r b ∷ bs) = logFrom look bs
+logFrom look (commit r seat stamp ls ∷ bs) = aCommit (stated look seat stamp ls) ∷ logFrom look bs
+logFrom look (mark m ∷ bs) = aMark m ∷ logFrom look bs
+logFrom look (blank ∷ bs) = []
 
 -- are these blocks the layout of a history?
 unfoldable pub ok : List Block → Bool
@@ -87,6 +104,7 @@ ok [] = false
 ok (label ∷ bs) = okFrom (bytesAt (label ∷ bs)) 1 0 (replicate 32 0 ∷ []) bs
 ok (content r b ∷ bs) = false
 ok (commit r seat stamp ls ∷ bs) = false
+ok (mark m ∷ bs) = false
 ok (blank ∷ bs) = false
 
 -- the history that they state
@@ -94,9 +112,13 @@ unfoldable pub readAll : List Block → History
 readAll [] = []
 readAll (b ∷ bs) = readFrom (bytesAt (b ∷ bs)) bs
 
--- the history that the blocks are the layout of, if they are one
-unfoldable pub decodeStore : List Block → Option History
-decodeStore bs = cond (ok bs) (some (readAll bs)) none
+unfoldable pub logAll : List Block → Log
+logAll [] = []
+logAll (b ∷ bs) = logFrom (bytesAt (b ∷ bs)) bs
+
+-- the log that the blocks are the layout of, if they are one
+unfoldable pub decodeStore : List Block → Option Log
+decodeStore bs = cond (ok bs) (some (logAll bs)) none
 
 -- the tables after a run of blocks
 unfoldable pub tablesAfter : List Table → List Block → List Table
@@ -104,6 +126,7 @@ tablesAfter tables [] = tables
 tablesAfter tables (label ∷ bs) = tables
 tablesAfter tables (content r b ∷ bs) = tablesAfter tables bs
 tablesAfter tables (commit r seat stamp ls ∷ bs) = tablesAfter (grown tables ls) bs
+tablesAfter tables (mark m ∷ bs) = tablesAfter tables bs
 tablesAfter tables (blank ∷ bs) = tables
 
 -- the tables of all trees of a store, tree 0 first

@@ -1,4 +1,4 @@
--- "When the engine says no", the lines numbered 7 to 14: for each call its conditions, in the document's order, and the first that holds.
+-- "When the engine says no", the lines numbered 7 to 14 and 16: for each call its conditions, in the document's order, and the first that holds.
 -- Assumes nothing.
 use Prim.Native.Nat.{_+_, ℕ}
 use mathlib.Core.Bool.{Bool, _&&_, _||_, cond, false, not, true}
@@ -6,11 +6,12 @@ use mathlib.Core.List.{List, [], _∷_}
 use mathlib.Core.Logic.{_⊎_}
 use mathlib.Core.Option.{Option, none, some}
 use mathlib.Core.Path.{_≡_}
-use lib.Dec.{eqb, ltb}
+use lib.Dec.{eqb, leb, ltb}
 use lib.ListN.{length}
 use Rattle.model.specs.Entry.{Entry, added, copied, deleted, empty, isEmpty, modified, normal, ownBytes, pending}
 use Rattle.model.specs.History.{History, last, namedAfter, newest, present, sheet}
-use Rattle.model.specs.Machine.{Add, Call, Clears, ClearsCut, Commits, CommitsCut, Copy, Delete, Edit, Log, Move, Read, Revert, Show, Side, Status, Update, blocksFor, chosen, commitChanges, entry, shown, updatedTo}
+use Rattle.model.specs.Log.{among, releases}
+use Rattle.model.specs.Machine.{Add, Call, Clears, ClearsCut, Commits, CommitsCut, Copy, Delete, Edit, Log, Move, Panel, Read, Release, Revert, Show, Side, Status, Update, blocksFor, chosen, commitChanges, entry, panelSheet, shown, updatedTo}
 use Rattle.model.specs.Rows.{some-row}
 
 infix 70 _when_
@@ -70,9 +71,18 @@ noRoom d mask = ltb (d .blocks) (d .used + blocksFor (d .history) (commitChanges
 abbrev pub commitConditions : Side → ℕ → List Condition
 commitConditions d mask = 7 when eqb mask 0 ∷ 10 when nothingChosen d mask ∷ 11 when someStale d mask ∷ 13 when noRoom d mask ∷ []
 
+-- "7 covers 0 and a seat outside 1 to 4"
+abbrev pub noSeat : ℕ → Bool
+noSeat k = not (leb 1 k && leb k 4)
+
+-- "Refusal 13 covers its one block": U + 1 exceeds N
+abbrev pub full : Side → Bool
+full d = ltb (d .blocks) (d .used + 1)
+
 -- the lines that speak of a call, in the document's order: "a sheet number exceeds 31, bytes exceed 480, a mask is zero, or a revision exceeds the last (for log: or is 0)" (7);
 -- "edit, delete, copy or move from an empty or deleted entry; read of a sheet that tree R lacks; show of an empty or deleted entry whose sheet the last tree lacks" (8);
--- "The entry to add, or the target of copy or move, isn't empty" (9)
+-- "The entry to add, or the target of copy or move, isn't empty" (9); "16, a release of a revision already released, checked after 7"; panel reading gives "refusal 8 if
+-- there is none"
 abbrev pub conditions : Side → Call → List Condition
 conditions d (Add i x) = 7 when (noSheet i || ltb 480 (length x)) ∷ 9 when not (isEmpty (entry d i)) ∷ []
 conditions d (Edit i x) = 7 when (noSheet i || ltb 480 (length x)) ∷ 8 when nothingIn (entry d i) ∷ []
@@ -89,8 +99,11 @@ conditions d (Log R i) = 7 when (noSheet i || (eqb R 0 || tooLate (d .history) R
 conditions d Clears = []
 conditions d (CommitsCut stamp mask n) = commitConditions d mask
 conditions d (ClearsCut n) = []
+conditions d (Release R seat stamp) =
+    7 when (noSeat seat || (eqb R 0 || tooLate (d .history) R)) ∷ 16 when among R (releases (d .marks)) ∷ 13 when full d ∷ []
+conditions d (Panel R i) = 7 when (noSheet i || tooLate (d .history) R) ∷ 8 when not (present (panelSheet d R i)) ∷ []
 
--- "14, commit on a store that has a tail, checked right after 3"
+-- "14, commit on a store that has a tail, checked right after 3", and a release: "14 a store with a tail"
 abbrev pub tailConditions : Side → Call → List Condition
 tailConditions d (Add i x) = []
 tailConditions d (Edit i x) = []
@@ -107,6 +120,8 @@ tailConditions d (Log R i) = []
 tailConditions d Clears = []
 tailConditions d (CommitsCut stamp mask n) = 14 when not (eqb (d .tail) 0) ∷ []
 tailConditions d (ClearsCut n) = []
+tailConditions d (Release R seat stamp) = 14 when not (eqb (d .tail) 0) ∷ []
+tailConditions d (Panel R i) = []
 
 -- the number of the first line that holds
 abbrev pub firstOf : List Condition → Option ℕ

@@ -2,11 +2,12 @@
 -- Assumes nothing.
 use Prim.Native.Nat.{_<_, _^_, _≤_, ℕ}
 use mathlib.Core.Bool.{Bool, cond, false, true}
-use mathlib.Core.List.{List, [], _++_, _∷_}
+use mathlib.Core.List.{List, [], _++_, _∷_, map}
 use mathlib.Core.Option.{Option, none, some}
 use Rattle.block.specs.Lists.{All}
-use Rattle.model.specs.History.{Commit}
-use Rattle.model.specs.Machine.{Add, Answer, Call, Clears, ClearsCut, Commits, CommitsCut, Copy, Delete, Edit, Log, Move, Read, Revert, Show, Side, State, Status, Update, bytes, doing, done, logged, newCommit, put, refused, revision, sideOf, status, stopped}
+use Rattle.model.specs.History.{Commit, last}
+use Rattle.model.specs.Log.{Log as TheLog, Mark, Placed, aCommit, aMark, released}
+use Rattle.model.specs.Machine.{Add, Answer, Call, Clears, ClearsCut, Commits, CommitsCut, Copy, Delete, Edit, Log, Move, Panel, Read, Release, Revert, Show, Side, State, Status, Update, bytes, doing, done, logged, newCommit, put, refused, revision, sideOf, status, stopped}
 use Rattle.model.specs.Refusals.{Condition, conditions, firstOf, tailConditions}
 
 -- the lines that are the machine's own, in the document's order
@@ -60,6 +61,28 @@ asked d (Log R i) = []
 asked d Clears = []
 asked d (CommitsCut stamp mask n) = newCommit d stamp mask ∷ []
 asked d (ClearsCut n) = []
+asked d (Release R seat stamp) = []
+asked d (Panel R i) = []
+
+-- the mark that a call asks for
+abbrev pub askedMark : Side → Call → List Mark
+askedMark d (Add i x) = []
+askedMark d (Edit i x) = []
+askedMark d (Delete i) = []
+askedMark d (Copy i j) = []
+askedMark d (Move i j) = []
+askedMark d (Commits stamp mask) = []
+askedMark d (Update mask R) = []
+askedMark d (Revert mask) = []
+askedMark d (Read R i) = []
+askedMark d (Show i) = []
+askedMark d (Status i) = []
+askedMark d (Log R i) = []
+askedMark d Clears = []
+askedMark d (CommitsCut stamp mask n) = []
+askedMark d (ClearsCut n) = []
+askedMark d (Release R seat stamp) = released R seat stamp ∷ []
+askedMark d (Panel R i) = []
 
 abbrev pub isRevision : Answer → Bool
 isRevision (refused n) = false
@@ -70,12 +93,43 @@ isRevision (bytes x n) = false
 isRevision (status s n) = false
 isRevision (logged seat stamp m a i R) = false
 
+abbrev pub isRefused : Answer → Bool
+isRefused (refused n) = true
+isRefused done = false
+isRefused stopped = false
+isRefused (revision R) = false
+isRefused (bytes x n) = false
+isRefused (status s n) = false
+isRefused (logged seat stamp m a i R) = false
+
 -- "An accepted commit is one that the machine answers with a revision": those of a list of calls, the first one first
 abbrev pub accepted : State → List Turn → List Commit
 accepted s [] = []
 accepted s (t ∷ ts) =
     cond (isRevision (step s (t .by) (t .call) .0)) (asked (sideOf s (t .by)) (t .call)) []
     ++ accepted (step s (t .by) (t .call) .1) ts
+
+abbrev pub placedAt : ℕ → List Mark → List Placed
+placedAt n [] = []
+placedAt n (m ∷ ms) = record { after = n; mark = m } ∷ placedAt n ms
+
+-- the marks of a list of calls that were made, each after the last revision then
+abbrev pub acceptedMarks : State → List Turn → List Placed
+acceptedMarks s [] = []
+acceptedMarks s (t ∷ ts) =
+    cond (isRefused (step s (t .by) (t .call) .0)) [] (placedAt (last (s .history)) (askedMark (sideOf s (t .by)) (t .call)))
+    ++ acceptedMarks (step s (t .by) (t .call) .1) ts
+
+-- what a call adds to the log, where it asked for these and was answered so: a commit that is answered with a revision, a mark that is not refused
+abbrev pub itemsBy : Answer → List Commit → List Mark → TheLog
+itemsBy a cs ms = cond (isRevision a) (map aCommit cs) [] ++ cond (isRefused a) [] (map aMark ms)
+
+-- "a history includes its releases and their places": the accepted commits and the releases of a list of calls in their common order. Its commits are `accepted`, its marks
+-- `acceptedMarks`: laws/proofs/Lasting
+abbrev pub acceptedLog : State → List Turn → TheLog
+acceptedLog s [] = []
+acceptedLog s (t ∷ ts) =
+    itemsBy (step s (t .by) (t .call) .0) (asked (sideOf s (t .by)) (t .call)) (askedMark (sideOf s (t .by)) (t .call)) ++ acceptedLog (step s (t .by) (t .call) .1) ts
 
 -- ---- the lists that a caller can give: bytes are below 256, a stamp has 32 bits, and the seat is one of four
 
@@ -95,6 +149,8 @@ Typed (Log R i) = Unit {0}
 Typed Clears = Unit {0}
 Typed (CommitsCut stamp mask n) = stamp < 2 ^ 32
 Typed (ClearsCut n) = Unit {0}
+Typed (Release R seat stamp) = stamp < 2 ^ 32
+Typed (Panel R i) = Unit {0}
 
 pub record Valid (t : Turn) : Type 0 where
   pub low : 1 ≤ t .by

@@ -9,7 +9,7 @@ use Rattle.model.specs.Calls.{Buffers, copyConditions, storeConditions}
 use Rattle.model.specs.History.{Bytes}
 use Rattle.model.specs.Machine.{Side, State}
 use Rattle.model.specs.Refusals.{firstOf}
-use Rattle.model.specs.Store.{blockCount, storeHistory, tailOf, usedOf}
+use Rattle.model.specs.Store.{blockCount, storeHistory, storeMarks, tailOf, usedOf}
 use Rattle.model.specs.Tail.{Tailed}
 use Rattle.model.specs.WorkCopy.{HoldsCopy, entriesOf, seatOf}
 
@@ -24,6 +24,8 @@ pub record Seen (N : ℕ) (store copy : Bytes) (d : Side) : Type 0 where
   pub many : N ≤ 4_096
   pub blocks : d .blocks ≡ N
   pub stored : Tailed N store (d .history) (d .used) (d .tail)
+  -- its releases, each at its place
+  pub marked : storeMarks store ≡ d .marks
   pub copied : HoldsCopy copy (d .seat) (d .entries)
 
 -- "The history in a store and the entries in a copy are those whose layout, by the next section, the buffer is."
@@ -32,13 +34,21 @@ pub record Shows (N : ℕ) (b : Buffers) (s : State) : Type 0 where
   pub many : N ≤ 4_096
   pub blocks : s .blocks ≡ N
   pub store : Tailed N (b .store) (s .history) (s .used) (s .tail)
+  pub marked : storeMarks (b .store) ≡ s .marks
   pub four : length (b .copies) ≡ 4
   pub copies : (k : ℕ) → k < 4 → HoldsCopy (getD (b .copies) k []) (suc k) (getD (s .seats) k [])
 
 -- ---- buffers that someone else left: the state that they show, if they are accepted
 
 abbrev pub stateIn : Buffers → State
-stateIn b = record { blocks = blockCount (b .store); used = usedOf (b .store); tail = tailOf (b .store); history = storeHistory (b .store); seats = map entriesOf (b .copies) }
+stateIn b = record {
+  blocks = blockCount (b .store);
+  used = usedOf (b .store);
+  tail = tailOf (b .store);
+  history = storeHistory (b .store);
+  marks = storeMarks (b .store);
+  seats = map entriesOf (b .copies);
+}
 
 -- four copies, of seats 1 to 4 in order, each accepted with the store
 pub record AllAccepted (b : Buffers) : Type 0 where

@@ -9,15 +9,20 @@ use lib.ListN.{drop, getD, length, replicate, take}
 use Rattle.block.specs.Buffer.{blockAt}
 use Rattle.block.specs.Check.{isZero, sealed}
 use Rattle.block.specs.Lists.{All, all}
-use Rattle.model.specs.Blocks.{Block, FitsBlock, blank, commit, content, fieldsOf, fitsBlock, label, parse}
+use Rattle.model.specs.Blocks.{Block, FitsBlock, blank, commit, content, fieldsOf, fitsBlock, label, mark, parse}
 use Rattle.model.specs.Codec.{joined, parts, shaped}
 use Rattle.model.specs.History.{Bytes, History, last}
-use Rattle.model.specs.Layout.{Lays}
-use Rattle.model.specs.Pass.{isBlank, ok, readAll, tablesOf}
+use Rattle.model.specs.Layout.{LaysLog}
+use Rattle.model.specs.Log.{Log, Marked, Placed, commits, marks, marksOk}
+use Rattle.model.specs.Pass.{isBlank, logAll, ok, readAll, tablesOf}
 
--- n blocks of bytes are the layout of h: they are the bytes of some blocks, in some order of changes and contents, that lay it out
+-- n blocks of bytes are the layout of g: they are the bytes of some blocks, in some order of changes and contents, that lay it out, and its marks go together
+unfoldable pub HoldsLog : ℕ → List ℕ → Log → Type 0
+HoldsLog n l g = (bs : List Block) × (length bs ≡ n) × All FitsBlock bs × (joined fieldsOf bs ≡ l) × LaysLog bs g × Marked (marks g)
+
+-- n blocks of bytes are the layout of the commits h, with any marks among them
 unfoldable pub Holds : ℕ → List ℕ → History → Type 0
-Holds n l h = (bs : List Block) × (length bs ≡ n) × All FitsBlock bs × (joined fieldsOf bs ≡ l) × Lays bs h
+Holds n l h = (g : Log) × (commits g ≡ h) × HoldsLog n l g
 
 unfoldable pub blocksOf : ℕ → List ℕ → List Block
 blocksOf n l = map parse (parts n l)
@@ -28,7 +33,7 @@ checked n l = all sealed (parts n l)
 
 -- of n blocks whose checks are right: they are the layout of a history
 unfoldable pub lawful : ℕ → List ℕ → Bool
-lawful n l = all (shaped fieldsOf parse fitsBlock) (parts n l) && ok (blocksOf n l)
+lawful n l = all (shaped fieldsOf parse fitsBlock) (parts n l) && (ok (blocksOf n l) && marksOk (marks (logAll (blocksOf n l))))
 
 unfoldable pub historyOf : ℕ → List ℕ → History
 historyOf n l = readAll (blocksOf n l)
@@ -61,6 +66,7 @@ abbrev pub onStem : Block → List Block → List Block
 onStem label [] = label ∷ []
 onStem (content r b) [] = []
 onStem (commit r s t ls) [] = commit r s t ls ∷ []
+onStem (mark m) [] = mark m ∷ []
 onStem blank [] = blank ∷ []
 onStem b (c ∷ cs) = b ∷ c ∷ cs
 
@@ -94,6 +100,7 @@ abbrev pub carries : ℕ → Block → Bool
 carries r label = false
 carries r (content q b) = eqb q r
 carries r (commit q s t ls) = false
+carries r (mark m) = false
 carries r blank = false
 
 -- m whole blocks, u of them before the tail: no zero block stands among these, the tail's content blocks are well formed, carry the next revision and are 32 at most; `bare`
@@ -126,6 +133,13 @@ storeBlocks store = blocksOf (blockCount store) (bareOf store)
 
 abbrev pub storeHistory : Bytes → History
 storeHistory store = historyOf (blockCount store) (bareOf store)
+
+-- the commits and the marks in their common order, and the marks with their places
+abbrev pub storeLog : Bytes → Log
+storeLog store = logAll (storeBlocks store)
+
+abbrev pub storeMarks : Bytes → List Placed
+storeMarks store = marks (storeLog store)
 
 abbrev pub usedOf : Bytes → ℕ
 usedOf store = length (front (storeBlocks store))

@@ -13,7 +13,7 @@ use Rattle.model.specs.Codec.{joined}
 use Rattle.model.specs.History.{Bytes, History, last}
 use Rattle.model.specs.Store.{Holds, blocksOf, front}
 
--- a store of N blocks without a tail is the layout of the history, and U blocks stand before the all-zero ones
+-- a store of N blocks without a tail is the layout of the commits, with any marks among them, and U blocks stand before the all-zero ones
 pub record Stored (N : ℕ) (store : Bytes) (h : History) (used : ℕ) : Type 0 where
   pub holds : Holds N store h
   pub uses : length (front (blocksOf N store)) ≡ used
@@ -38,7 +38,7 @@ pub record Tail (r : ℕ) (cs js : List Bytes) : Type 0 where
   pub one : length js ≤ 1
   pub junk : All Junk js
 
--- N blocks of bytes are the layout of the history, with a tail of t blocks after the U used ones (t is 0 where there is none), and zero blocks to the end
+-- N blocks of bytes are the layout of the commits, with any marks, with a tail of t blocks after the U used ones (t is 0 where there is none), and zero blocks to the end
 pub record Tailed (N : ℕ) (store : Bytes) (h : History) (used t : ℕ) : Type 0 where
   pub bare : Bytes
   pub stored : Stored N bare h used

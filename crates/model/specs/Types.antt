@@ -13,7 +13,7 @@ use Rattle.model.specs.declared.Entry.{Entry as TheEntry}
 use Rattle.model.specs.declared.Place.{Place as ThePlace}
 use Rattle.model.specs.declared.Place.the-variants.{InCopy, InStore, Refused as NoPlace}
 use Rattle.model.specs.declared.Refusal.{Refusal}
-use Rattle.model.specs.declared.Refusal.the-variants.{Conflict, CopyLayout, CopyLength, Missing, NoRoom, NotHolding, NothingPending, Occupied, OutOfDate, Range, StoreCheck, StoreLayout, StoreLength, Tail, Unfit}
+use Rattle.model.specs.declared.Refusal.the-variants.{Conflict, CopyLayout, CopyLength, Missing, NoRoom, NotHolding, NothingPending, Occupied, OutOfDate, Range, Released, StoreCheck, StoreLayout, StoreLength, Tail, Unfit}
 use Rattle.model.specs.declared.State.{State}
 use Rattle.model.specs.declared.State.the-variants.{Added, Copied, Deleted, Empty, Normal}
 
@@ -34,6 +34,7 @@ numberOf Conflict = 12
 numberOf NoRoom = 13
 numberOf Tail = 14
 numberOf NotHolding = 15
+numberOf Released = 16
 
 -- an entry in this state, with these bytes
 abbrev pub entryAs : State → Bytes → Entry

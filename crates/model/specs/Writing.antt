@@ -6,9 +6,10 @@ use mathlib.Core.Bool.{Bool, false, true}
 use mathlib.Core.List.{List, [], _++_, _∷_, map}
 use lib.ListN.{drop, length}
 use Rattle.block.specs.Lists.{same}
-use Rattle.model.specs.Blocks.{Action, Block, Line, adds, bytesAt, changes, commit, content, copies, deletes}
+use Rattle.model.specs.Blocks.{Action, Block, Line, adds, bytesAt, changes, commit, content, copies, deletes, mark}
 use Rattle.model.specs.History.{Change, Commit, add, change, copy, delete, nothing}
 use Rattle.model.specs.Layout.{Table, user}
+use Rattle.model.specs.Log.{Mark}
 use Rattle.model.specs.Pass.{tablesOf}
 use Rattle.model.specs.Store.{blanks, front}
 
@@ -72,3 +73,7 @@ module _ (front bl : List Block) (c : Commit) where
 -- the blocks with a commit added: its content blocks in the order of its changes, its commit block with the changes by rising sheet, then the blank blocks that are left
 abbrev pub withCommit : List Block → Commit → List Block
 withCommit bs c = front bs ++ newBlocks (front bs) (blanks bs) c (drop (suc (length (newContents (front bs) (blanks bs) c))) (blanks bs))
+
+-- the blocks with a mark added: its block in the place of the first blank one
+abbrev pub withMark : List Block → Mark → List Block
+withMark bs m = front bs ++ (mark m ∷ drop 1 (blanks bs))

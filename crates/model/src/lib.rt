@@ -17,6 +17,7 @@ pub enum Refusal {
     NoRoom,
     Tail,
     NotHolding,
+    Released,
 }
 
 // Where a copied entry comes from: sheet and revision.

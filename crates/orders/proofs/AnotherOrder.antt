@@ -16,7 +16,7 @@ use Rattle.model.specs.Entry.{added, copied, deleted, empty, normal}
 use Rattle.model.specs.History.{Bytes, tree}
 use Rattle.model.specs.Layout.{means, next}
 use Rattle.model.specs.Machine.{Answer, bytes, refused, revision}
-use Rattle.model.specs.Pass.{laid, noChanges, ok, okFrom, readAll, readFrom, rule, stated, tablesAfter, tablesOf}
+use Rattle.model.specs.Pass.{laid, logAll, logFrom, noChanges, ok, okFrom, readAll, readFrom, rule, stated, tablesAfter, tablesOf}
 use Rattle.model.specs.Refusals.{firstOf}
 use Rattle.model.specs.Store.{bareIn, blankFrom, blocksOf, checked, checkedBut, filledIn, historyOf, lawful, lawfulBut, stemIn, wholeIn}
 use Rattle.model.specs.WorkCopy.{copyBlocksOf, copyBytes, copyOk, entriesOf, parseCopyBlock, seatOf}
@@ -55,5 +55,5 @@ pub record AnotherOrder : Type 0 where
       ∷ (bytes (68 ∷ []) 2 ∷ bytes (66 ∷ []) 2 ∷ absent ∷ bytes (69 ∷ []) 2 ∷ bytes (67 ∷ []) 1 ∷ bytes [] 2 ∷ []) ∷ []
 
 pub another-order : AnotherOrder
-unfolding tree bytesAt next means ok okFrom readAll readFrom stated noChanges rule laid padded checksOf encode sealed shaped parse checked lawful blocksOf historyOf tablesOf tablesAfter parseCopyBlock copyBytes copyBlocksOf copyOk seatOf entriesOf refusalOf storeRefusal changeCall readPlace checkedBut lawfulBut filledIn wholeIn stemIn blankFrom bareIn
+unfolding tree bytesAt next means ok okFrom readAll readFrom logAll logFrom stated noChanges rule laid padded checksOf encode sealed shaped parse checked lawful blocksOf historyOf tablesOf tablesAfter parseCopyBlock copyBytes copyBlocksOf copyOk seatOf entriesOf refusalOf storeRefusal changeCall readPlace checkedBut lawfulBut filledIn wholeIn stemIn blankFrom bareIn
 another-order = record { accepted = refl; read = refl; answer = refl; committed = refl; kept = refl; read-after = refl }

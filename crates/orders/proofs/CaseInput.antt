@@ -7,13 +7,14 @@ use lib.ListN.{length, replicate, set}
 use Rattle.block.specs.Check.{checksOf}
 use Rattle.block.specs.Field.{twoAt}
 use Rattle.model.specs.Codec.{encode, padded}
-use Rattle.model.specs.History.{Bytes, History, add, nothing, tree}
+use Rattle.model.specs.History.{Bytes, add, nothing, tree}
 use Rattle.model.specs.Layout.{next}
+use Rattle.model.specs.Log.{Log, aCommit}
 use Rattle.model.specs.Order.{storeBytes}
 
 -- seat 2 adds byte 65 as sheet 5 and commits with stamp 7
-abbrev history : History
-history = record { seat = 2; stamp = 7; changes = set (replicate 32 nothing) 5 (add (65 ∷ [])) } ∷ []
+abbrev history : Log
+history = aCommit (record { seat = 2; stamp = 7; changes = set (replicate 32 nothing) 5 (add (65 ∷ [])) }) ∷ []
 
 -- a and b of a block
 abbrev checks : Bytes → ℕ → ℕ × ℕ

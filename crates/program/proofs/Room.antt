@@ -19,7 +19,7 @@ use Rattle.laws.proofs.Rows.{or-false}
 use Rattle.laws.proofs.Trees.{Small, small-tree}
 use Rattle.model.specs.History.{Bytes, last, namer, sheet}
 use Rattle.model.specs.Invariant.{Kept}
-use Rattle.model.specs.Machine.{Add, Call, Clears, ClearsCut, Commits, CommitsCut, Copy, Delete, Edit, Log, Move, Read, Revert, Show, State, Status, Update, asBytes, fresh, sideOf}
+use Rattle.model.specs.Machine.{Add, Call, Clears, ClearsCut, Commits, CommitsCut, Copy, Delete, Edit, Log, Move, Panel, Read, Release, Revert, Show, State, Status, Update, asBytes, fresh, sideOf}
 use Rattle.model.specs.Refusals.{conditions, firstOf, noSheet, tooLate}
 use Rattle.model.specs.Run.{Turn, Valid, ownConditions, stepBy}
 use Rattle.text.proofs.Laws.{length-decimal, length-hex}
@@ -75,6 +75,8 @@ Room n (Log R i) = Unit {0}
 Room n Clears = Unit {0}
 Room n (CommitsCut stamp mask m) = ⊥
 Room n (ClearsCut m) = ⊥
+Room n (Release R seat stamp) = ⊥
+Room n (Panel R i) = ⊥
 
 abbrev Roomy : ℕ → Option Turn → Type 0
 Roomy n o = Every (λ (t : Turn). Room n (t .call)) o
@@ -211,6 +213,8 @@ answer-room s k n (Log R i) none e K h r = omega arith
 answer-room s k n Clears none e K h r = omega arith
 answer-room s k n (CommitsCut stamp mask m) none e K h r = absurd r
 answer-room s k n (ClearsCut m) none e K h r = absurd r
+answer-room s k n (Release R seat stamp) none e K h r = absurd r
+answer-room s k n (Panel R i) none e K h r = absurd r
 
 text-room : (s : State) (n : ℕ) (o : Option Turn) → Roomy n o → Kept s → 1 ≤ n → length (answered s o .0) ≤ 121 * n
 text-room s n none r K h = omega arith

@@ -31,7 +31,7 @@ abbrev pub naming : ℕ → Change → List Change
 naming k a = set (replicate 32 nothing) k a
 
 abbrev pub side : ℕ → ℕ → History → Entry → Side
-side k u h e = record { seat = k; blocks = 121; used = u; tail = 0; history = h; entries = own k e }
+side k u h e = record { seat = k; blocks = 121; used = u; tail = 0; history = h; marks = []; entries = own k e }
 
 abbrev pub commitOf : ℕ → ℕ → Change → Commit
 commitOf k t a = record { seat = k; stamp = t; changes = naming k a }
@@ -108,6 +108,7 @@ module _ (k t u : ℕ) (h : History) (e : Entry) (lo : 1 ≤ k) (hi : k ≤ 4) (
         used = u + two-blocks i;
         tail = 0;
         history = h ++ (record { seat = k; stamp = t; changes = written i } ∷ []);
+        marks = [];
         entries = s i;
       }
 

@@ -20,7 +20,7 @@ use Rattle.model.specs.Calls.{Buffers, freshBuffers}
 use Rattle.model.specs.Codec.{padTo}
 use Rattle.turns.specs.Mixed.{Bench, MixedList, Move, ValidMoves, bench, commits, held, moveOn, movedOn, plain, said, saidOn, through, turns}
 use Rattle.model.specs.Machine.{Answer, fresh}
-use Rattle.model.specs.Run.{accepted}
+use Rattle.model.specs.Run.{accepted, acceptedMarks}
 use Rattle.rehearsal.specs.Rehearsal.{Day, Row, Sensible, asking, day, daysFrom, finishing, freshDay, grantedTo, hasAsked, hasCommitted, hasWaited, holds, joining, noRow, settingOf, stepOf, wants}
 use Rattle.rehearsal.specs.RehearsalCalls.{Hall, RealDay, askMoves, askingOn, closingOn, finishMoves, finishingOn, gotThrough, grantOn, hall, leaves, movesFrom, noTally, notRefused, oneAsk, oneCommit, oneWait, rowIn, seatAsks, stepMoves, stepOn, stepsOn, tallyOf, writing}
 use Rattle.rehearsal.specs.declared.Setting.{Setting}
@@ -335,6 +335,6 @@ real-day l n four sensible few =
       turn = ap (λ (w : Hall). w .bench .turn) (S .1);
       calls = ap (λ (w : Hall). w .bench) (S .1) ∙ S .2 .0;
       taken = S .2 .1;
-      whole = subst (λ (b : Bench). MixedList 121 ms b (accepted (fresh 121) (through free ms))) (sym (ap (λ (w : Hall). w .bench) (S .1) ∙ S .2 .0))
+      whole = subst (λ (b : Bench). MixedList 121 ms b (accepted (fresh 121) (through free ms)) (acceptedMarks (fresh 121) (through free ms))) (sym (ap (λ (w : Hall). w .bench) (S .1) ∙ S .2 .0))
           (demand-three-in-turn 121 ms (omega arith) (omega arith) (S .2 .2));
     }

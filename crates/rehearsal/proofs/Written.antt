@@ -40,7 +40,7 @@ use Rattle.laws.proofs.Trees.{sheet-zero}
 use Rattle.rehearsal.proofs.OwnSheet.{Own, Ready, commit-clear, commit-does, commitOf, other-sheet, own, own-grown, own-later, own-made, own-sheet, seat-any, side, wide-naming, written-so}
 
 abbrev pub stateOf : ℕ → History → List (List Entry) → State
-stateOf u h l = record { blocks = 121; used = u; tail = 0; history = h; seats = l }
+stateOf u h l = record { blocks = 121; used = u; tail = 0; history = h; marks = []; seats = l }
 
 -- the buffers show a state in which every seat has its own sheet, as its commits left it, and a step takes two blocks at most
 pub record Written (t : ℕ) (b : Buffers) (rows : List Tally) : Type 0 where
@@ -128,7 +128,7 @@ module _ (t : ℕ) (b : Buffers) (rows : List Tally) (W : Written t b rows) (fou
   wrote : step s k (first .call) ≡ (done, s₁)
   wrote =
       step-so s k (first .call) (mine (W .each k lo hi .0))
-      (ap (λ (l : List Entry). record { seat = k; blocks = 121; used = W .used; tail = 0; history = W .history; entries = l }) (W .each k lo hi .1)) (writes .1)
+      (ap (λ (l : List Entry). record { seat = k; blocks = 121; used = W .used; tail = 0; history = W .history; marks = []; entries = l }) (W .each k lo hi .1)) (writes .1)
       ∙ ap (λ (x : Answer × Side). (x .0, put s k (x .1))) (writes .2)
 
   abbrev b₁ : Buffers
@@ -167,7 +167,7 @@ module _ (t : ℕ) (b : Buffers) (rows : List Tally) (W : Written t b rows) (fou
 
   side₁ : sideOf s₁ k ≡ mine (writes .0)
   side₁ =
-      ap (λ (l : List Entry). record { seat = k; blocks = 121; used = W .used; tail = 0; history = W .history; entries = l })
+      ap (λ (l : List Entry). record { seat = k; blocks = 121; used = W .used; tail = 0; history = W .history; marks = []; entries = l })
       (getD-set-same (W .seats) (k - 1) (own k (writes .0)) [] (let f = W .kept .four in omega (arith, f)))
 
   committed : stepBy (firstOf (ownInTurn turn (sideOf s₁ k) now (2 ^ k))) s₁ k (Commits now (2 ^ k)) ≡ (revision (suc (last (W .history))), s₂)

@@ -13,7 +13,7 @@ use Rattle.block.specs.Lists.{All, all}
 use Rattle.model.specs.Calls.{freshBuffers}
 use Rattle.model.specs.Codec.{padTo}
 use Rattle.model.specs.Machine.{Add, Edit, fresh, refusal}
-use Rattle.model.specs.Run.{Turn, accepted, isRevision}
+use Rattle.model.specs.Run.{Turn, accepted, acceptedMarks, isRevision}
 use Rattle.rehearsal.specs.Rehearsal.{Day, Row, Sensible, asking, dayOf, finishing, freshDay, greatest, holds, rowOf, settingOf, stepOf, wants}
 use Rattle.rehearsal.specs.declared.Setting.{Setting}
 use Rattle.rehearsal.specs.declared.Tally.{Tally}
@@ -149,6 +149,7 @@ pub record Real (settings : List Setting) (n : ℕ) (w : Hall) : Type 0 where
   pub taken : all notRefused (saidOn (bench (freshBuffers 121) free) (movesFrom settings 1 n freshDay)) ≡ true
   -- demand 3 speaks of this list of calls, as of every other
   pub whole : MixedList 121 (movesFrom settings 1 n freshDay) (w .bench) (accepted (fresh 121) (through free (movesFrom settings 1 n freshDay)))
+      (acceptedMarks (fresh 121) (through free (movesFrom settings 1 n freshDay)))
 
 abbrev pub RealDay : Type 0
 RealDay = (settings : List Setting) (n : ℕ) → length settings ≡ 4 → All Sensible settings → n ≤ 60 → Real settings n (hallOf settings n)

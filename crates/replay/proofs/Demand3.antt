@@ -15,7 +15,7 @@ use Rattle.model.specs.Calls.{Buffers, answersOn, freshBuffers, runOn}
 use Rattle.model.specs.Demand3.{WholeList}
 use Rattle.model.specs.History.{Bytes}
 use Rattle.model.specs.Machine.{Answer, done, fresh, refused}
-use Rattle.model.specs.Run.{AllValid, Turn, accepted, answers}
+use Rattle.model.specs.Run.{AllValid, Turn, accepted, acceptedMarks, answers}
 use Rattle.model.specs.Types.{answerOf}
 use Rattle.model.specs.declared.Answer.{Answer as TheAnswer}
 use Rattle.replay.proofs.Encoding.{script-bytes, script-turns}
@@ -36,7 +36,7 @@ use Rattle.replay.specs.Script.{turnsOf}
 -- of demand 3 holds
 pub record ScriptDone (N : ℕ) (ts : List Turn) (old store copies records : Bytes) : Type 0 where
   pub answer : records ≡ recordsOf (answers (fresh N) ts) ++ drop (512 * length ts) old
-  pub whole : WholeList N ts (buffersIn store copies) (accepted (fresh N) ts)
+  pub whole : WholeList N ts (buffersIn store copies) (accepted (fresh N) ts) (acceptedMarks (fresh N) ts)
 
 pub record ReplayDemand3 : Type 2 where
   pub replay-meets : (M : Type 1) → replay-statement.statement M
@@ -72,7 +72,7 @@ scripts-done N lo hi κs s x y z s′ x′ y′ z′ r small fresh₀ L q =
       answer =
           l .1 ∙ ap (λ (b : Buffers). recordsOf (answersOn b ts) ++ drop (512 * length ts) (now z)) fresh₀
           ∙ ap (λ (a : List Answer). recordsOf a ++ drop (512 * length ts) (now z)) (W .answer);
-      whole = subst (λ (b : Buffers). WholeList N ts b (accepted (fresh N) ts)) (sym (l .0 ∙ ap (λ (b : Buffers). runOn b ts) fresh₀)) W;
+      whole = subst (λ (b : Buffers). WholeList N ts b (accepted (fresh N) ts) (acceptedMarks (fresh N) ts)) (sym (l .0 ∙ ap (λ (b : Buffers). runOn b ts) fresh₀)) W;
     }
 
 pub replay-demand-three : ReplayDemand3

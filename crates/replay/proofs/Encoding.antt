@@ -15,10 +15,10 @@ use Rattle.inner.specs.Performs.{callOf}
 use Rattle.laws.proofs.All.{all-append}
 use Rattle.laws.proofs.Codec.{four-back, two-back}
 use Rattle.model.specs.History.{Bytes}
-use Rattle.model.specs.Machine.{Add, Call, Clears, ClearsCut, Commits, CommitsCut, Copy, Delete, Edit, Log, Move, Read, Revert, Show, Status, Update}
+use Rattle.model.specs.Machine.{Add, Call, Clears, ClearsCut, Commits, CommitsCut, Copy, Delete, Edit, Log, Move, Panel, Read, Release, Revert, Show, Status, Update}
 use Rattle.model.specs.Run.{Turn, Typed}
 use Rattle.replay.specs.Encoding.{AllRecorded, Recorded, Row, recordBy, rowOf, scriptOf}
-use Rattle.replay.specs.Script.{bytesIn, callAs, callIn, recordOk, scriptOk, turnIn, turnsFrom, turnsOf}
+use Rattle.replay.specs.Script.{bytesIn, callAs, callIn, kindOk, recordOk, scriptOk, turnIn, turnsFrom, turnsOf}
 
 -- ---- one record
 
@@ -67,9 +67,9 @@ module _ (seat : ℕ) (r : Row) (room : length (r .bytes) ≤ 496) where
   turn-back : turnIn (recordBy seat r) ≡ record { by = seat; call = callOf (callAs (r .kind) (r .first) (r .second) (r .third)) (r .bytes) }
   turn-back = λ i. record { by = seat-back i; call = callOf (call-back i) (bytes-back i) }
 
-  good-back : 1 ≤ r .kind → r .kind ≤ 15 → 1 ≤ seat → seat ≤ 4 → recordOk (recordBy seat r) ≡ true
+  good-back : kindOk (r .kind) ≡ true → 1 ≤ seat → seat ≤ 4 → recordOk (recordBy seat r) ≡ true
   unfolding recordOk
-  good-back lo hi low high = rw (kind-back, seat-back, count-back, le-leb 1 (r .kind) lo, le-leb (r .kind) 15 hi, le-leb 1 seat low, le-leb seat 4 high, le-leb (length (r .bytes)) 496 room)
+  good-back ok low high = rw (kind-back, seat-back, count-back, ok, le-leb 1 seat low, le-leb seat 4 high, le-leb (length (r .bytes)) 496 room)
 
 row-back : (c : Call) → callOf (callAs (rowOf c .kind) (rowOf c .first) (rowOf c .second) (rowOf c .third)) (rowOf c .bytes) ≡ c
 row-back (Add i x) = refl
@@ -87,23 +87,27 @@ row-back (Log R i) = refl
 row-back Clears = refl
 row-back (CommitsCut stamp mask n) = refl
 row-back (ClearsCut n) = refl
+row-back (Release R seat stamp) = refl
+row-back (Panel R i) = refl
 
-kind-in : (c : Call) → (1 ≤ rowOf c .kind) × (rowOf c .kind ≤ 15)
-kind-in (Add i x) = (omega arith, omega arith)
-kind-in (Edit i x) = (omega arith, omega arith)
-kind-in (Delete i) = (omega arith, omega arith)
-kind-in (Copy i j) = (omega arith, omega arith)
-kind-in (Move i j) = (omega arith, omega arith)
-kind-in (Commits stamp mask) = (omega arith, omega arith)
-kind-in (Update mask R) = (omega arith, omega arith)
-kind-in (Revert mask) = (omega arith, omega arith)
-kind-in (Read R i) = (omega arith, omega arith)
-kind-in (Show i) = (omega arith, omega arith)
-kind-in (Status i) = (omega arith, omega arith)
-kind-in (Log R i) = (omega arith, omega arith)
-kind-in Clears = (omega arith, omega arith)
-kind-in (CommitsCut stamp mask n) = (omega arith, omega arith)
-kind-in (ClearsCut n) = (omega arith, omega arith)
+kind-in : (c : Call) → (kindOk (rowOf c .kind) ≡ true) × (rowOf c .kind < 256)
+kind-in (Add i x) = (refl, omega arith)
+kind-in (Edit i x) = (refl, omega arith)
+kind-in (Delete i) = (refl, omega arith)
+kind-in (Copy i j) = (refl, omega arith)
+kind-in (Move i j) = (refl, omega arith)
+kind-in (Commits stamp mask) = (refl, omega arith)
+kind-in (Update mask R) = (refl, omega arith)
+kind-in (Revert mask) = (refl, omega arith)
+kind-in (Read R i) = (refl, omega arith)
+kind-in (Show i) = (refl, omega arith)
+kind-in (Status i) = (refl, omega arith)
+kind-in (Log R i) = (refl, omega arith)
+kind-in Clears = (refl, omega arith)
+kind-in (CommitsCut stamp mask n) = (refl, omega arith)
+kind-in (ClearsCut n) = (refl, omega arith)
+kind-in (Release R seat stamp) = (refl, omega arith)
+kind-in (Panel R i) = (refl, omega arith)
 
 abbrev Byte : ℕ → Type 0
 Byte x = x < 256
@@ -124,6 +128,8 @@ typed-bytes (Log R i) t = tt
 typed-bytes Clears t = tt
 typed-bytes (CommitsCut stamp mask n) t = tt
 typed-bytes (ClearsCut n) t = tt
+typed-bytes (Release R seat stamp) t = tt
+typed-bytes (Panel R i) t = tt
 
 all-four : (n : ℕ) → n < 2 ^ 32 → (l : Bytes) → All Byte l → All Byte (four n l)
 all-four n h l a = (omega arith, (omega arith, (omega arith, (omega (arith, h), a))))
@@ -143,19 +149,19 @@ module _ (t : Turn) (R : Recorded t) where
   is-turn = turn-back (t .by) (rowOf (t .call)) (R .room) ∙ ap (λ (c : Call). record { by = t .by; call = c }) (row-back (t .call))
 
   is-good : recordOk mine ≡ true
-  is-good = let k = kind-in (t .call) in good-back (t .by) (rowOf (t .call)) (R .room) (k .0) (k .1) (R .valid .low) (R .valid .high)
+  is-good = good-back (t .by) (rowOf (t .call)) (R .room) (kind-in (t .call) .0) (R .valid .low) (R .valid .high)
 
   is-bytes : All Byte mine
   unfolding recordBy
   is-bytes =
-      let k = kind-in (t .call) in
+      let k = kind-in (t .call) .1 in
       let r : Row = rowOf (t .call) in
       let n = R .room in
       let rest = all-append Byte (r .bytes) (replicate (496 - length (r .bytes)) 0) (typed-bytes (t .call) (R .valid .typed)) (zero-bytes (496 - length (r .bytes))) in
       let l : Bytes = r .bytes ++ replicate (496 - length (r .bytes)) 0 in
       let numbers : All Byte (four (r .first) (four (r .second) (four (r .third) l))) =
       all-four (r .first) (R .first) (four (r .second) (four (r .third) l)) (all-four (r .second) (R .second) (four (r .third) l) (all-four (r .third) (R .third) l rest)) in
-      (omega (arith, k .1), (omega (arith, R .valid .high), (omega arith, (omega (arith, n), numbers))))
+      (omega (arith, k), (omega (arith, R .valid .high), (omega arith, (omega (arith, n), numbers))))
 
 -- ---- one after the other
 

@@ -19,10 +19,11 @@ use Rattle.laws.proofs.Ordered.{ordered}
 use Rattle.model.specs.Calls.{Buffers, freshBuffers, runOn, storeConditions}
 use Rattle.model.specs.Demand2.{LaidStore}
 use Rattle.model.specs.History.{Bytes, History}
+use Rattle.model.specs.Log.{Log, commits}
 use Rattle.model.specs.Machine.{Answer, done, fresh, refusal, refused}
 use Rattle.model.specs.Order.{continued, storeBytes}
 use Rattle.model.specs.Refusals.{Condition, _when_, firstOf}
-use Rattle.model.specs.Run.{AllValid, Turn, accepted, answers}
+use Rattle.model.specs.Run.{AllValid, Turn, acceptedLog, answers}
 use Rattle.model.specs.Shows.{AllAccepted, stateIn}
 use Rattle.model.specs.Store.{bareOf, tailOf}
 use Rattle.model.specs.Types.{answerOf}
@@ -45,11 +46,11 @@ pub data Ran : Bytes → Bytes → Bytes → Bytes → Type 0 where
   ran : {r : TheAnswer} (κs : Lfts 4) (s x y z s′ x′ y′ z′ : RefT Bytes) → ((i : ℕ) → getD (now s) i 0 < 256)
       → replay-reads.Learnt κs (s, (x, (y, (z, tt)))) r (s′, (x′, (y′, (z′, tt)))) → answerOf r ≡ done → Ran (now s) (now x) (now y) (now x′)
 
--- the commits of a script that are accepted on a fresh store of N blocks
-abbrev pub commitsOf : ℕ → Bytes → History
-commitsOf N script = accepted (fresh N) (turnsOf script)
+-- the commits and releases of a script that are accepted on a fresh store of N blocks, in their common order
+abbrev pub logOf : ℕ → Bytes → Log
+logOf N script = acceptedLog (fresh N) (turnsOf script)
 
--- of a script on buffers whose store is a layout of h, where `old` are the answers' buffer before and `records` after
+-- of a script on buffers whose store is a layout of the commits h, with any releases among them, where `old` are the answers' buffer before and `records` after
 pub record Taken (script : Bytes) (b : Buffers) (old : Bytes) (h : History) (r : TheAnswer) (records : Bytes) : Type 0 where
   pub refusals : (n : ℕ) → answerOf r ≡ refused n → 4 ≤ n
   pub history : stateIn b .history ≡ h
@@ -57,22 +58,22 @@ pub record Taken (script : Bytes) (b : Buffers) (old : Bytes) (h : History) (r :
 
 pub record ReplayOrdered : Type 2 where
   pub replay-meets : (M : Type 1) → replay-statement.statement M
-  -- "Stores already written in another order are still accepted and read.": a store that is a layout of h, in whatever order, is no reason to refuse a script (refusals 1 to 3), and the
+  -- "Stores already written in another order are still accepted and read.": a store that is a layout of a history, in whatever order, is no reason to refuse a script (refusals 1 to 3), and the
   -- answers of a script that is run, those of read among them, are the machine's from that history
   pub another : (κs : Lfts 4) (s x y z s′ x′ y′ z′ : RefT Bytes) (r : TheAnswer) → replay-reads.Learnt κs (s, (x, (y, (z, tt)))) r (s′, (x′, (y′, (z′, tt))))
-      → (h : History) → LaidStore (now x) h → Taken (now s) (buffersIn (now x) (now y)) (now z) h r (now z′)
+      → (g : Log) → LaidStore (now x) g → Taken (now s) (buffersIn (now x) (now y)) (now z) (commits g) r (now z′)
   -- "From now on a commit writes its changes by rising sheet number, and its content blocks in the order of the changes that point to them.": behind the blocks in use, which stay, in
-  -- whatever order they are, the commits that were accepted; a tail that is left counts as zero blocks
-  pub scripts : {script store copies store′ : Bytes} → Ran script store copies store′ → bareOf store′ ≡ continued store (accepted (stateIn (buffersIn store copies)) (turnsOf script))
-  -- from a fresh store of N blocks and four fresh copies, where no tail is left: the bytes follow from N and the accepted commits alone
+  -- whatever order they are, the commits that were accepted and the releases; a tail that is left counts as zero blocks
+  pub scripts : {script store copies store′ : Bytes} → Ran script store copies store′ → bareOf store′ ≡ continued store (acceptedLog (stateIn (buffersIn store copies)) (turnsOf script))
+  -- from a fresh store of N blocks and four fresh copies, where no tail is left: the bytes follow from N, the accepted commits and the releases in their places
   pub bytes : (N : ℕ) → 2 ≤ N → N ≤ 4_096 → {script store copies store′ : Bytes} → Ran script store copies store′ → buffersIn store copies ≡ freshBuffers N
-      → tailOf store′ ≡ 0 → store′ ≡ storeBytes N (commitsOf N script)
+      → tailOf store′ ≡ 0 → store′ ≡ storeBytes N (logOf N script)
   -- "Two fresh stores of one size whose calls make the same history then hold equal bytes."
   pub equal : (N : ℕ) → 2 ≤ N → N ≤ 4_096 → {s t x y u v x′ u′ : Bytes} → Ran s x y x′ → Ran t u v u′ → buffersIn x y ≡ freshBuffers N → buffersIn u v ≡ freshBuffers N
-      → tailOf x′ ≡ 0 → tailOf u′ ≡ 0 → commitsOf N s ≡ commitsOf N t → x′ ≡ u′
+      → tailOf x′ ≡ 0 → tailOf u′ ≡ 0 → logOf N s ≡ logOf N t → x′ ≡ u′
   -- and back: equal bytes are the same history
   pub back : (N : ℕ) → 2 ≤ N → N ≤ 4_096 → {s t x y u v x′ u′ : Bytes} → Ran s x y x′ → Ran t u v u′ → buffersIn x y ≡ freshBuffers N → buffersIn u v ≡ freshBuffers N
-      → x′ ≡ u′ → commitsOf N s ≡ commitsOf N t
+      → x′ ≡ u′ → logOf N s ≡ logOf N t
 
 -- THE PROOF
 
@@ -125,15 +126,15 @@ not-for-store script store copies old n t e =
     (sym (clear-first (storeConditions store) rest (clear (storeConditions store) t)) ∙ e)
 
 any-layout : (κs : Lfts 4) (s x y z s′ x′ y′ z′ : RefT Bytes) (r : TheAnswer) → replay-reads.Learnt κs (s, (x, (y, (z, tt)))) r (s′, (x′, (y′, (z′, tt))))
-    → (h : History) → LaidStore (now x) h → Taken (now s) (buffersIn (now x) (now y)) (now z) h r (now z′)
-any-layout κs s x y z s′ x′ y′ z′ r L h l =
+    → (g : Log) → LaidStore (now x) g → Taken (now s) (buffersIn (now x) (now y)) (now z) (commits g) r (now z′)
+any-layout κs s x y z s′ x′ y′ z′ r L g l =
     let D = demand-two (now x) [] in
     let o : Option ℕ = replayRefusal (now s) (now x) (now y) (now z) in
     let before : Desk = desk (now x) (now y) (now z) in
     let after : Desk = desk (now x′) (now y′) (now z′) in
     record {
-      refusals = λ n q. not-for-store (now s) (now x) (now y) (now z) n (D .store-accepted .1 (h, l)) (sym (answered o (turnsOf (now s)) before after (L .is)) ∙ ap refusal q);
-      history = D .store-read h l .0;
+      refusals = λ n q. not-for-store (now s) (now x) (now y) (now z) n (D .store-accepted .1 (g, l)) (sym (answered o (turnsOf (now s)) before after (L .is)) ∙ ap refusal q);
+      history = D .store-read g l .1;
       answer = λ q. L .machine (was-done o (turnsOf (now s)) before after (L .is) q .0) .answer;
     }
 

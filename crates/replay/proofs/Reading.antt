@@ -10,33 +10,46 @@ use lib.ListN.{getD, length}
 use Rattle.block.specs.Buffer.{blockAt}
 use Rattle.block.specs.Field.{fourAt, twoAt}
 use Rattle.block.specs.Lists.{allFrom}
-use Rattle.inner.specs.declared.Call.the-variants.{ClearCut}
+use Rattle.inner.specs.declared.Call.the-variants.{Panel}
 use Rattle.model.specs.History.{Bytes}
-use Rattle.replay.specs.Script.{callAs, callIn, recordOk, scriptOk}
+use Rattle.replay.specs.Script.{callAs, callIn, kindOk, recordOk, scriptOk}
 
-module _ (r : Bytes) {k : ℕ} (e : k ≡ getD r 0 0) where
-  pub no-kind : k < 1 → false ≡ recordOk r
+-- the ways through `kind_ok`
+pub kind-none : (k : ℕ) → k < 1 → false ≡ kindOk k
+kind-none k h = sym (rw (lt-leb 1 k h, lt-leb 20 k (omega arith)))
+
+module _ (k : ℕ) (lo : 1 ≤ k) where
+  pub kind-first : k ≤ 15 → true ≡ kindOk k
+  kind-first h = sym (rw (le-leb 1 k lo, le-leb k 15 h))
+
+  module _ (far : 15 < k) where
+    pub kind-turns : k < 20 → false ≡ kindOk k
+    kind-turns h = sym (rw (le-leb 1 k lo, lt-leb k 15 far, lt-leb 20 k h))
+
+    pub kind-later : 20 ≤ k → leb k 21 ≡ kindOk k
+    kind-later h = sym (rw (le-leb 1 k lo, lt-leb k 15 far, le-leb 20 k h))
+
+module _ (r : Bytes) {k : ℕ} (e : k ≡ getD r 0 0) {t : Bool} (w : t ≡ kindOk k) where
+  kind-is : {b : Bool} → t ≡ b → kindOk (getD r 0 0) ≡ b
+  kind-is z = ap kindOk (sym e) ∙ sym w ∙ z
+
+  pub no-kind : not t ≡ true → false ≡ recordOk r
   unfolding recordOk
-  no-kind h = sym (rw (← e, lt-leb 1 k h))
+  no-kind h = sym (rw (kind-is (not-true t h)))
 
-  module _ (lo : 1 ≤ k) where
-    pub far-kind : 15 < k → false ≡ recordOk r
+  module _ (ok : not t ≡ false) {s : ℕ} (q : s ≡ getD r 1 0) where
+    pub no-seat : s < 1 → false ≡ recordOk r
     unfolding recordOk
-    far-kind h = sym (rw (← e, le-leb 1 k lo, lt-leb k 15 h))
+    no-seat h = sym (rw (kind-is (not-false t ok), ← q, lt-leb 1 s h))
 
-    module _ (hi : k ≤ 15) {s : ℕ} (q : s ≡ getD r 1 0) where
-      pub no-seat : s < 1 → false ≡ recordOk r
+    module _ (low : 1 ≤ s) where
+      pub far-seat : 4 < s → false ≡ recordOk r
       unfolding recordOk
-      no-seat h = sym (rw (← e, le-leb 1 k lo, le-leb k 15 hi, ← q, lt-leb 1 s h))
+      far-seat h = sym (rw (kind-is (not-false t ok), ← q, le-leb 1 s low, lt-leb s 4 h))
 
-      module _ (low : 1 ≤ s) where
-        pub far-seat : 4 < s → false ≡ recordOk r
-        unfolding recordOk
-        far-seat h = sym (rw (← e, le-leb 1 k lo, le-leb k 15 hi, ← q, le-leb 1 s low, lt-leb s 4 h))
-
-        pub good-record : s ≤ 4 → {n : ℕ} → n ≡ twoAt r 2 → leb n 496 ≡ recordOk r
-        unfolding recordOk
-        good-record high {n} p = sym (rw (← e, le-leb 1 k lo, le-leb k 15 hi, ← q, le-leb 1 s low, le-leb s 4 high, ← p))
+      pub good-record : s ≤ 4 → {n : ℕ} → n ≡ twoAt r 2 → leb n 496 ≡ recordOk r
+      unfolding recordOk
+      good-record high {n} p = sym (rw (kind-is (not-false t ok), ← q, le-leb 1 s low, le-leb s 4 high, ← p))
 
 -- the call, by its kind
 pub decoded : (r : Bytes) {k a b c : ℕ} → k ≡ getD r 0 0 → a ≡ fourAt r 4 → b ≡ fourAt r 8 → c ≡ fourAt r 12 → callAs k a b c ≡ callIn r
@@ -46,11 +59,11 @@ decoded r e p q s = λ i. callAs (e i) (p i) (q i) (s i)
 abbrev Not : ℕ → ℕ → Type 0
 Not k n = k ≡ n → ⊥
 
-pub clears : (k a b c : ℕ) → Not k 1 → Not k 2 → Not k 3 → Not k 4 → Not k 5 → Not k 6 → Not k 7 → Not k 8 → Not k 9 → Not k 10 → Not k 11 → Not k 12 → Not k 13 → Not k 14 → ClearCut a ≡ callAs k a b c
-clears k a b c n1 n2 n3 n4 n5 n6 n7 n8 n9 n10 n11 n12 n13 n14 =
+pub panels : (k a b c : ℕ) → Not k 1 → Not k 2 → Not k 3 → Not k 4 → Not k 5 → Not k 6 → Not k 7 → Not k 8 → Not k 9 → Not k 10 → Not k 11 → Not k 12 → Not k 13 → Not k 14 → Not k 15 → Not k 20 → Panel a b ≡ callAs k a b c
+panels k a b c n1 n2 n3 n4 n5 n6 n7 n8 n9 n10 n11 n12 n13 n14 n15 n20 =
     sym
     (rw
-    (ne-eqb k 1 n1, ne-eqb k 2 n2, ne-eqb k 3 n3, ne-eqb k 4 n4, ne-eqb k 5 n5, ne-eqb k 6 n6, ne-eqb k 7 n7, ne-eqb k 8 n8, ne-eqb k 9 n9, ne-eqb k 10 n10, ne-eqb k 11 n11, ne-eqb k 12 n12, ne-eqb k 13 n13, ne-eqb k 14 n14))
+    (ne-eqb k 1 n1, ne-eqb k 2 n2, ne-eqb k 3 n3, ne-eqb k 4 n4, ne-eqb k 5 n5, ne-eqb k 6 n6, ne-eqb k 7 n7, ne-eqb k 8 n8, ne-eqb k 9 n9, ne-eqb k 10 n10, ne-eqb k 11 n11, ne-eqb k 12 n12, ne-eqb k 13 n13, ne-eqb k 14 n14, ne-eqb k 15 n15, ne-eqb k 20 n20))
 
 -- the records of a script, from record i on
 module _ (s : Bytes) where

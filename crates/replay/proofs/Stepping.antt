@@ -30,7 +30,7 @@ use Rattle.model.specs.WorkCopy.{seatOf}
 use Rattle.replay.proofs.Copies.{copy-is, length-copies, put-copies, put-is}
 use Rattle.replay.specs.Desk.{buffersIn, copyAt, withCopy}
 use Rattle.replay.specs.Records.{recordOf}
-use Rattle.replay.specs.Script.{bytesIn, callAs, callIn, recordOk, turnIn}
+use Rattle.replay.specs.Script.{bytesIn, callAs, callIn, kindOk, recordOk, turnIn}
 use Rattle.replay.specs.Steps.{Reachable, Set, Stepped, Stepping, Turned}
 use Rattle.store.proofs.Opening.{open-accepted}
 use Rattle.store.specs.declared.Header.{Header}
@@ -41,9 +41,8 @@ use Rattle.workcopy.proofs.Scan.{all-bytes}
 pub good-limits : (r : Bytes) → recordOk r ≡ true → (1 ≤ getD r 1 0) × (getD r 1 0 ≤ 4) × (twoAt r 2 ≤ 496)
 unfolding recordOk
 good-limits r e =
-    let a = both (leb 1 (getD r 0 0)) _ e in
-    let b = both (leb (getD r 0 0) 15) _ (a .1) in
-    let c = both (leb 1 (getD r 1 0)) _ (b .1) in
+    let a = both (kindOk (getD r 0 0)) _ e in
+    let c = both (leb 1 (getD r 1 0)) _ (a .1) in
     let d = both (leb (getD r 1 0) 4) (leb (twoAt r 2) 496) (c .1) in
     (leb-true 1 (getD r 1 0) (c .0), leb-true (getD r 1 0) 4 (d .0), leb-true (twoAt r 2) 496 (d .1))
 
@@ -51,8 +50,8 @@ good-limits r e =
 called : (r : Bytes) {k : Call} {n : ℕ} → k ≡ callIn r → n ≡ twoAt r 2 → callOf k (take (16 + n - 16) (drop 16 r)) ≡ turnIn r .call
 called r {n = n} p q = let e : 16 + n - 16 ≡ twoAt r 2 = omega (arith, q) in λ i. callOf (p i) (take (e i) (drop 16 r))
 
-typed-call : (x : Bytes) → All (λ (y : ℕ). y < 256) x → (k a b c : ℕ) → a < 2 ^ 32 → Typed (callOf (callAs k a b c) x)
-typed-call x all k a b c small =
+typed-call : (x : Bytes) → All (λ (y : ℕ). y < 256) x → (k a b c : ℕ) → a < 2 ^ 32 → b < 2 ^ 32 → Typed (callOf (callAs k a b c) x)
+typed-call x all k a b c small second =
     cond-any P (eqb k 1) (λ e. all)
     (λ e. cond-any P (eqb k 2) (λ e. all)
     (λ e. cond-any P (eqb k 3) (λ e. tt)
@@ -66,7 +65,9 @@ typed-call x all k a b c small =
     (λ e. cond-any P (eqb k 11) (λ e. tt)
     (λ e. cond-any P (eqb k 12) (λ e. tt)
     (λ e. cond-any P (eqb k 13) (λ e. tt)
-    (λ e. cond-any P (eqb k 14) (λ e. small) (λ e. tt))))))))))))))
+    (λ e. cond-any P (eqb k 14) (λ e. small)
+    (λ e. cond-any P (eqb k 15) (λ e. tt)
+    (λ e. cond-any P (eqb k 20) (λ e. second) (λ e. tt))))))))))))))))
   where
     P : Call → Type 0
     P c = Typed (callOf c x)
@@ -75,7 +76,7 @@ pub turn-typed : (r : Bytes) → ((i : ℕ) → getD r i 0 < 256) → Typed (tur
 unfolding callIn
 turn-typed r f =
     typed-call (bytesIn r) (all-take (λ (y : ℕ). y < 256) (twoAt r 2) (drop 16 r) (all-drop (λ (y : ℕ). y < 256) 16 r (all-bytes r f))) (getD r 0 0) (fourAt r 4) (fourAt r 8) (fourAt r 12)
-    (omega (arith, f 4, f 5, f 6, f 7))
+    (omega (arith, f 4, f 5, f 6, f 7)) (omega (arith, f 8, f 9, f 10, f 11))
 
 -- ---- its seat's buffers
 

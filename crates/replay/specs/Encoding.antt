@@ -5,7 +5,7 @@ use mathlib.Core.List.{List, [], _++_, _∷_}
 use lib.ListN.{length, replicate}
 use Rattle.block.specs.Field.{four, two}
 use Rattle.model.specs.History.{Bytes}
-use Rattle.model.specs.Machine.{Add, Call, Clears, ClearsCut, Commits, CommitsCut, Copy, Delete, Edit, Log, Move, Read, Revert, Show, Status, Update}
+use Rattle.model.specs.Machine.{Add, Call, Clears, ClearsCut, Commits, CommitsCut, Copy, Delete, Edit, Log, Move, Panel, Read, Release, Revert, Show, Status, Update}
 use Rattle.model.specs.Run.{Turn, Valid}
 
 -- a call's kind, its numbers and its bytes
@@ -16,7 +16,7 @@ pub record Row : Type 0 where
   pub third : ℕ
   pub bytes : Bytes
 
--- third is 0 but of a commit that stops after n writes
+-- third is 0 but of a commit that stops after n writes and of a release
 abbrev pub row : ℕ → ℕ → ℕ → Bytes → Row
 row k a b x = record { kind = k; first = a; second = b; third = 0; bytes = x }
 
@@ -36,6 +36,8 @@ rowOf (Log R i) = row 12 R i []
 rowOf Clears = row 13 0 0 []
 rowOf (CommitsCut stamp mask n) = record { kind = 14; first = stamp; second = mask; third = n; bytes = [] }
 rowOf (ClearsCut n) = row 15 n 0 []
+rowOf (Release R seat stamp) = record { kind = 20; first = R; second = stamp; third = seat; bytes = [] }
+rowOf (Panel R i) = row 21 R i []
 
 unfoldable pub recordBy : ℕ → Row → Bytes
 recordBy seat r = r .kind ∷ seat ∷ two (length (r .bytes)) (four (r .first) (four (r .second) (four (r .third) (r .bytes ++ replicate (496 - length (r .bytes)) 0))))

@@ -13,7 +13,7 @@ ghost use Rattle.replay.specs.Desk.{desk, ranFrom};
 ghost use Rattle.replay.specs.Faults.{Checks, faultOf};
 ghost use Rattle.replay.specs.Records.{recordOf, zeros};
 ghost use Rattle.replay.specs.Replay.{Replays, copyLines, linesFrom};
-ghost use Rattle.replay.specs.Script.{callIn, recordOk, scriptOk, turnsOf};
+ghost use Rattle.replay.specs.Script.{callIn, kindOk, recordOk, scriptOk, turnsOf};
 ghost use Rattle.replay.specs.Steps.{Reachable, Running, Stepped, Stepping, Turned, Turning};
 ghost use Rattle.store.specs.Opened.{openOf};
 ghost use Rattle.store.specs.declared.Opened.the-variants.{Open};
@@ -31,16 +31,29 @@ use store::Opened;
 
 // ---- the script
 
+// Whether there is a call of this kind: 1 to 15, 20 or 21.
+fn kind_ok(kind: u8) -> bool
+    ensures { λ r. ⌜ r ≡ kindOk kind ⌝ }
+{
+    if kind < 1 {
+        return false;
+    }
+    if kind <= 15 {
+        return true;
+    }
+    if kind < 20 {
+        return false;
+    }
+    kind <= 21
+}
+
 // Whether a record has a kind and a seat, and its bytes end within it.
 fn record_ok(rec: &[u8]) -> bool
     ensures { λ r. ⌜ r ≡ recordOk (now (rec .entry)) ⌝ }
 {
     let kind = block::byte(rec, 0);
     let seat = block::byte(rec, 1);
-    if kind < 1 {
-        return false;
-    }
-    if 15 < kind {
+    if !kind_ok(kind) {
         return false;
     }
     if seat < 1 {
@@ -122,7 +135,13 @@ fn decode(rec: &[u8]) -> Call
     if kind == 14 {
         return Call::CommitCut(a, b, c);
     }
-    Call::ClearCut(a)
+    if kind == 15 {
+        return Call::ClearCut(a);
+    }
+    if kind == 20 {
+        return Call::Release(a, c, b);
+    }
+    Call::Panel(a, b)
 }
 
 // ---- the records of the answers

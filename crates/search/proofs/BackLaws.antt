@@ -1,7 +1,7 @@
 -- The search back, one law for each way through a turn.
 -- Assumes nothing.
 use Prim.Native.Nat.{_*_, _+_, _-_, _<_, _≤_, suc, zero, ℕ}
-use mathlib.Core.Bool.{Bool, true}
+use mathlib.Core.Bool.{Bool, _&&_, true}
 use mathlib.Core.List.{List}
 use mathlib.Core.Path.{_∙_, _≡_, ap, ap₂, refl, subst, sym}
 use native.Mathlib.Omega.{arith}
@@ -12,9 +12,10 @@ use lib.Seq.{drop-drop}
 use Rattle.block.proofs.Says.{and-true}
 use Rattle.block.specs.Field.{twoAt}
 use Rattle.block.specs.Lists.{all, same}
-use Rattle.model.specs.Blocks.{Block, FitsBlock, Line, blank, commit, content, fieldsOf, fitsBlock, label, parse, parseLine, parseLines}
+use Rattle.model.specs.Blocks.{Block, FitsBlock, Line, blank, commit, content, fieldsOf, fitsBlock, label, mark, parse, parseLine, parseLines}
 use Rattle.model.specs.Codec.{padded, parts, shaped}
-use Rattle.model.specs.Pass.{ok}
+use Rattle.model.specs.Log.{marks, marksOk}
+use Rattle.model.specs.Pass.{logAll, ok}
 use Rattle.model.specs.Store.{blocksOf, lawful}
 use Rattle.laws.proofs.BlockCodes.{block-coded}
 use Rattle.search.specs.Find.{back, hitIn, inBlock, nowhere}
@@ -39,7 +40,7 @@ pub few-changes : (n p : ℕ) (s : List ℕ) → lawful n s ≡ true → p < n �
 unfolding lawful shaped
 few-changes n p s e h k =
     let l = lent s p in
-    let t = and-true (all (shaped fieldsOf parse fitsBlock) (parts n s)) (ok (blocksOf n s)) (subst T (sym e) tt) .0 in
+    let t = and-true (all (shaped fieldsOf parse fitsBlock) (parts n s)) (ok (blocksOf n s) && marksOk (marks (logAll (blocksOf n s)))) (subst T (sym e) tt) .0 in
     let u : T (shaped fieldsOf parse fitsBlock l) = subst (λ (x : List ℕ). T (shaped fieldsOf parse fitsBlock x)) (sym (lent-is s p))
     (all-part (shaped fieldsOf parse fitsBlock) n p s t h) in
     let f = block-coded .says (parse l) .true-so (and-true (fitsBlock (parse l)) (same (padded (fieldsOf (parse l))) (take 508 l)) u .0) in
@@ -62,6 +63,7 @@ other-block : (i : ℕ) (b : Block) (older : Found) → (kindOf b ≡ 3 → ⊥)
 other-block i label older n = refl
 other-block i (content r b) older n = refl
 other-block i (commit r s t ls) older n = absurd (n refl)
+other-block i (mark m) older n = refl
 other-block i blank older n = refl
 
 module _ (n : ℕ) (s : List ℕ) (i p : ℕ) (some : 0 < p) (h : p ≤ n) where

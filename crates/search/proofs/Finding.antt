@@ -69,7 +69,7 @@ module _ (s : Bytes) (n used : ℕ) (A : Accepted s n used) where
   all-ok = lays-accepted (storeBlocks s) (storeHistory s) (holds-blocks (blockCount s) (bareOf s) (storeHistory s) (taken-holds s (A .clear)) .lays) .0
 
   -- what the search back finds
-  pub found-is : (r b i : ℕ) → Bound s used r b → r ≤ last (storeHistory s) → i < 32 → back (blocksOf used s) i b ≡ foundIn s r i
+  pub found-is : (r b i : ℕ) → Bound (blocksOf used s) used r b → r ≤ last (storeHistory s) → i < 32 → back (blocksOf used s) i b ≡ foundIn s r i
   found-is r b i G h g =
       let P = passed s n used A in
       let q = same-history s n used A in

@@ -1,5 +1,6 @@
 -- Laws that belong to no one function.
 pub mod Revisions
+pub mod Halving
 pub mod BackLaws
 pub mod Sought
 pub mod Naming

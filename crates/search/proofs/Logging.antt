@@ -9,7 +9,7 @@ use lib.Dec.{T, eqb}
 use lib.ListN.{drop, getD, length, replicate, take}
 use Rattle.block.proofs.Says.{and-true}
 use Rattle.block.specs.Field.{fourAt, twoAt}
-use Rattle.model.specs.Blocks.{Block, Line, blank, bytesAt, commit, content, label, parse, parseLines}
+use Rattle.model.specs.Blocks.{Block, Line, blank, bytesAt, commit, content, label, mark, parse, parseLines}
 use Rattle.model.specs.Calls.{storeSide}
 use Rattle.model.specs.History.{Bytes, Commit, History, commitAt, last, noCommit}
 use Rattle.model.specs.Layout.{Rule, Table, means, puts}
@@ -25,9 +25,9 @@ use Rattle.laws.proofs.Accepting.{count-lines, total-puts}
 use Rattle.laws.proofs.All.{All-map}
 use Rattle.search.proofs.BackLaws.{few-changes}
 use Rattle.search.proofs.DeedLaws.{does-lines}
-use Rattle.search.proofs.Revisions.{Passed, count, count-one, counted, first-read, okAll, opened, passed, rev-at, same-history, used-high, used-is, usedIn}
+use Rattle.search.proofs.Revisions.{Passed, after-mark, count-one, counted, era-rest, first-read, okAll, opened, passed, same-history, used-high, used-is, usedIn}
 use Rattle.search.specs.Deed.{deedIn}
-use Rattle.search.specs.Find.{Accepted, Bound, revAt}
+use Rattle.search.specs.Find.{Accepted, Bound, count, eraAt}
 use Rattle.shape.proofs.Shapes.{length-parse}
 use Rattle.shape.specs.Shape.{kindOf}
 use Rattle.store.proofs.Blocks.{block-at, lent, part-size}
@@ -71,8 +71,12 @@ commit-there look at k tables (commit r s q ls ∷ bs) t (suc p) h c =
     let w = commit-there look (suc (at + k)) 0 (grown tables ls) bs
     (and-true (laid look at k tables s ls) (okFrom look (suc (at + k)) 0 (grown tables ls) bs) u .1) p (omega arith) (omega arith) in
     record { revision = w .revision; seat = w .seat; stamp = w .stamp; lines = w .lines; is = w .is; states = w .states; many = w .many }
+commit-there look at k tables (mark m ∷ bs) t zero h c = absurd (omega arith)
+commit-there look at k tables (mark m ∷ bs) t (suc p) h c =
+    let q = commit-there look (suc at) 0 tables bs (after-mark look at k tables m bs t) p (omega arith) c in
+    record { revision = q .revision; seat = q .seat; stamp = q .stamp; lines = q .lines; is = q .is; states = q .states; many = q .many }
 
-module _ (s : Bytes) (n used : ℕ) (A : Accepted s n used) (r b : ℕ) (G : Bound s used r b) (low : 1 ≤ r) (high : r ≤ last (storeHistory s)) where
+module _ (s : Bytes) (n used : ℕ) (A : Accepted s n used) (r b : ℕ) (G : Bound (blocksOf used s) used r b) (low : 1 ≤ r) (high : r ≤ last (storeHistory s)) where
   P : Passed s used used
   P = passed s n used A
 
@@ -86,7 +90,7 @@ module _ (s : Bytes) (n used : ℕ) (A : Accepted s n used) (r b : ℕ) (G : Bou
   look = bytesAt (blocksOf used s)
 
   far : 2 ≤ b
-  far = go b (counted s used used P r b G high')
+  far = go b (counted s used used P r high' b G)
     where
       go : (x : ℕ) → count (take (x - 1) rest) ≡ r → 2 ≤ x
       go zero e = absurd (omega (arith, e))
@@ -102,18 +106,18 @@ module _ (s : Bytes) (n used : ℕ) (A : Accepted s n used) (r b : ℕ) (G : Bou
   -- r − 1 commits stand before it
   just : count (take (b - 2) rest) ≡ r - 1
   just =
-      let v = rev-at s used used P (b - 1) (omega (arith, far)) (omega (arith, far, G .high)) in
+      let v = era-rest s used used P (b - 1) (omega (arith, far)) in
       let w = G .before (b - 1) (omega (arith, far)) (omega (arith, far)) in
       let d : b - 1 - 1 ≡ b - 2 = omega arith in
-      let v' : revAt s (b - 1) ≡ 1 + count (take (b - 2) rest) = subst (λ (x : ℕ). revAt s (b - 1) ≡ 1 + count (take x rest)) d v in
+      let v' : eraAt (blocksOf used s) (b - 1) ≡ 1 + count (take (b - 2) rest) = subst (λ (x : ℕ). eraAt (blocksOf used s) (b - 1) ≡ 1 + count (take x rest)) d v in
       let e : b - 2 + 1 ≡ b - 1 = omega (arith, far) in
       let o = subst (λ (x : ℕ). count (take x rest) ≤ count (take (b - 2) rest) + 1) e (count-one rest (b - 2)) in
-      omega (arith, v', w, o, counted s used used P r b G high')
+      omega (arith, v', w, o, counted s used used P r high' b G)
 
   there : CommitAt look rest (b - 2)
   there =
       let e : suc (b - 2) ≡ b - 1 = omega (arith, far) in
-      let m = subst (λ (x : ℕ). count (take x rest) ≡ r) (sym e) (counted s used used P r b G high') in
+      let m = subst (λ (x : ℕ). count (take x rest) ≡ r) (sym e) (counted s used used P r high' b G) in
       commit-there look 1 0 (replicate 32 0 ∷ []) rest (opened (blocksOf used s) (okAll s used used P) .2) (b - 2) (omega (arith, far, G .high, used-is s used used P)) (omega (arith, m, just))
 
   abbrev bytes : List ℕ

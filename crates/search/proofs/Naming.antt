@@ -12,7 +12,7 @@ use lib.ListN.{getD, length, replicate, set, take}
 use lib.Seq.{getD-set-other, getD-set-same, take-suc}
 use Rattle.block.proofs.Says.{and-true, eq-or}
 use Rattle.block.specs.Lists.{All}
-use Rattle.model.specs.Blocks.{Action, Block, Line, adds, blank, bytesAt, changes, commit, content, copies, deletes, label}
+use Rattle.model.specs.Blocks.{Action, Block, Line, adds, blank, bytesAt, changes, commit, content, copies, deletes, label, mark}
 use Rattle.model.specs.History.{History, namer, namerFrom, names, nothing}
 use Rattle.model.specs.Layout.{Table, means, meansAs, puts}
 use Rattle.model.specs.Pass.{grown, laid, noChanges, okFrom, readFrom, stated}
@@ -20,8 +20,8 @@ use Rattle.model.specs.Store.{blocksOf, historyOf}
 use Rattle.laws.proofs.Acceptance.{no-change, places}
 use Rattle.laws.proofs.Puts.{length-puts}
 use Rattle.laws.proofs.Trees.{namer-append}
-use Rattle.search.proofs.Revisions.{Passed, count, counted, first-read, kinds, okAll, opened, states, stating, used-few, used-is, usedIn}
-use Rattle.search.specs.Find.{Bound, back, hitIn, inBlock}
+use Rattle.search.proofs.Revisions.{Passed, after-mark, counted, first-read, kinds, okAll, opened, states, stating, used-few, used-is, usedIn}
+use Rattle.search.specs.Find.{Bound, back, count, hitIn, inBlock}
 use Rattle.search.specs.declared.Found.{Found}
 use Rattle.shape.specs.Shape.{kindOf}
 
@@ -77,6 +77,7 @@ solid-take look at k tables (content r x ∷ bs) t (suc b) h =
 solid-take look at k tables (commit r s q ls ∷ bs) t (suc b) h =
     let u = and-true (eqb r (length tables)) (laid look at k tables s ls && okFrom look (suc (at + k)) 0 (grown tables ls) bs) t .1 in
     (omega arith, solid-take look (suc (at + k)) 0 (grown tables ls) bs (and-true (laid look at k tables s ls) (okFrom look (suc (at + k)) 0 (grown tables ls) bs) u .1) b (omega arith))
+solid-take look at k tables (mark m ∷ bs) t (suc b) h = (omega arith, solid-take look (suc at) 0 tables bs (after-mark look at k tables m bs t) b (omega arith))
 
 read-snoc : (look : ℕ → List ℕ) (xs : List Block) (x : Block) → Solid xs → readFrom look (xs ++ (x ∷ [])) ≡ readFrom look xs ++ readFrom look (x ∷ [])
 unfolding readFrom
@@ -84,6 +85,7 @@ read-snoc look [] x a = refl
 read-snoc look (label ∷ xs) x a = absurd (omega (arith, a .0))
 read-snoc look (content r b ∷ xs) x a = read-snoc look xs x (a .1)
 read-snoc look (commit r s q ls ∷ xs) x a = ap {B = History} (λ y. stated look s q ls ∷ y) (read-snoc look xs x (a .1))
+read-snoc look (mark m ∷ xs) x a = read-snoc look xs x (a .1)
 read-snoc look (blank ∷ xs) x a = absurd (omega (arith, a .0))
 
 read-count : (look : ℕ → List ℕ) (xs : List Block) → Solid xs → length (readFrom look xs) ≡ count xs
@@ -92,6 +94,7 @@ read-count look [] a = refl
 read-count look (label ∷ xs) a = absurd (omega (arith, a .0))
 read-count look (content r b ∷ xs) a = read-count look xs (a .1)
 read-count look (commit r s q ls ∷ xs) a = ap suc (read-count look xs (a .1))
+read-count look (mark m ∷ xs) a = read-count look xs (a .1)
 read-count look (blank ∷ xs) a = absurd (omega (arith, a .0))
 
 read-take : (look : ℕ → List ℕ) (bs : List Block) (q : ℕ) → Solid (take q bs) → readFrom look (take q bs) ≡ take (count (take q bs)) (readFrom look bs)
@@ -101,21 +104,24 @@ read-take look [] (suc q) a = refl
 read-take look (label ∷ bs) (suc q) a = absurd (omega (arith, a .0))
 read-take look (content r b ∷ bs) (suc q) a = read-take look bs q (a .1)
 read-take look (commit r s t ls ∷ bs) (suc q) a = ap {B = History} (λ y. stated look s t ls ∷ y) (read-take look bs q (a .1))
+read-take look (mark m ∷ bs) (suc q) a = read-take look bs q (a .1)
 read-take look (blank ∷ bs) (suc q) a = absurd (omega (arith, a .0))
 
 -- one block more
-one-more : (look : ℕ → List ℕ) (i : ℕ) → i < 32 → (xs : List Block) (x : Block) (older : Found) → Solid xs → 2 ≤ kindOf x → stating x ≡ 1 + count xs
+one-more : (look : ℕ → List ℕ) (i : ℕ) → i < 32 → (xs : List Block) (x : Block) (older : Found) → Solid xs → 2 ≤ kindOf x
+    → ((kindOf x ≡ 4 → ⊥) → stating x ≡ 1 + count xs)
     → older .revision ≡ namerFrom 0 0 (readFrom look xs) i → inBlock i x older .revision ≡ namerFrom 0 0 (readFrom look (xs ++ (x ∷ []))) i
 unfolding readFrom stated
 one-more look i h xs label older a k e w = absurd (omega arith)
 one-more look i h xs (content r b) older a k e w = w ∙ ap (λ (y : History). namerFrom 0 0 y i) (sym (read-snoc look xs (content r b) a ∙ append-nil (readFrom look xs)))
 one-more look i h xs (commit r s q ls) older a k e w =
     let c = stated look s q ls in
-    let n : r ≡ suc (0 + length (readFrom look xs)) = omega (arith, read-count look xs a) in
+    let n : r ≡ suc (0 + length (readFrom look xs)) = omega (arith, read-count look xs a, e (λ z. absurd (omega arith))) in
     hit-revision i r ls older
     ∙ ap₂ (λ (x y : ℕ). cond (anyNames i ls) x y) n w
     ∙ ap (λ (t : Bool). cond t (suc (0 + length (readFrom look xs))) (namerFrom 0 0 (readFrom look xs) i)) (sym (stated-names look i h ls))
     ∙ sym (ap (λ (y : History). namerFrom 0 0 y i) (read-snoc look xs (commit r s q ls) a) ∙ namer-append 0 0 (readFrom look xs) (stated look s q ls ∷ []) i)
+one-more look i h xs (mark m) older a k e w = w ∙ ap (λ (y : History). namerFrom 0 0 y i) (sym (read-snoc look xs (mark m) a ∙ append-nil (readFrom look xs)))
 one-more look i h xs blank older a k e w = absurd (omega arith)
 
 back-names : (look : ℕ → List ℕ) (bs : List Block) → T (okFrom look 1 0 (replicate 32 0 ∷ []) bs) → (i : ℕ) → i < 32 → (b : ℕ) → b ≤ usedIn bs
@@ -131,7 +137,7 @@ back-names look bs t i h (suc b) g =
     ∙ ap (λ (x : List Block). namerFrom 0 0 (readFrom look x) i) (sym e)
 
 -- THE STATEMENT: before the bound of r the search finds the revision of the last commit up to r that names the sheet
-pub named-last : (s : List ℕ) (n used r b i : ℕ) → Passed s n used → Bound s used r b → r ≤ length (historyOf n s) → i < 32
+pub named-last : (s : List ℕ) (n used r b i : ℕ) → Passed s n used → Bound (blocksOf n s) used r b → r ≤ length (historyOf n s) → i < 32
     → back (blocksOf n s) i b .revision ≡ namer (historyOf n s) r i
 unfolding historyOf
 named-last s n used r b i A G last h =
@@ -144,4 +150,4 @@ named-last s n used r b i A G last h =
     ∙ ap (λ (x : ℕ). back (label ∷ bs) i x .revision) e
     ∙ back-names look bs (q .2) i h (b - 1) u
     ∙ ap (λ (y : History). namerFrom 0 0 y i) (read-take look bs (b - 1) (solid-take look 1 0 (replicate 32 0 ∷ []) bs (q .2) (b - 1) u)
-    ∙ ap₂ (λ (x : ℕ) (y : History). take x y) (counted s n used A r b G last) (sym (first-read (blocksOf n s) bs (q .1))))
+    ∙ ap₂ (λ (x : ℕ) (y : History). take x y) (counted s n used A r last b G) (sym (first-read (blocksOf n s) bs (q .1))))

@@ -1,4 +1,4 @@
--- The revisions that the blocks of an accepted store state: one more than the commits before.
+-- The eras of the blocks of an accepted store, and the revisions that its content and commit blocks state: one more than the commits before.
 -- Assumes nothing.
 use Prim.Native.Nat.{_*_, _+_, _-_, _<_, _≤_, suc, zero, ℕ}
 use mathlib.Core.Bool.{_&&_, true}
@@ -12,19 +12,20 @@ use lib.ListN.{getD, length, length-append, replicate, take}
 use Rattle.block.proofs.Says.{and-true, eq-or}
 use Rattle.block.specs.Field.{twoAt}
 use Rattle.block.specs.Lists.{all}
-use Rattle.model.specs.Blocks.{Block, blank, bytesAt, commit, content, fieldsOf, fitsBlock, label, parse}
+use Rattle.model.specs.Blocks.{Block, blank, bytesAt, commit, content, fieldsOf, fitsBlock, label, mark, parse}
 use Rattle.model.specs.Calls.{storeConditions}
 use Rattle.model.specs.Codec.{parts, shaped}
 use Rattle.model.specs.History.{Commit}
 use Rattle.model.specs.Layout.{Table, latest, next}
-use Rattle.model.specs.Pass.{grown, laid, ok, okFrom, readAll, readFrom, tablesOf}
+use Rattle.model.specs.Log.{Mark, marks, marksOk}
+use Rattle.model.specs.Pass.{grown, laid, logAll, ok, okFrom, readAll, readFrom, stands, tablesOf}
 use Rattle.model.specs.Store.{blocksOf, front, historyOf, lawful, storeBlocks, storeHistory, usedOf}
 use Rattle.laws.proofs.Conditions.{clear, sized-so}
 use Rattle.laws.proofs.Tables.{trail}
 use Rattle.laws.proofs.Used.{own-history, own-lawful, own-room, own-tables, own-used}
-use Rattle.search.specs.Find.{Accepted, Bound, revAt}
+use Rattle.search.specs.Find.{Accepted, Bound, count, eraAt}
 use Rattle.shape.specs.Shape.{kindOf}
-use Rattle.store.proofs.Blocks.{block-at, length-blocks, lent, lent-is}
+use Rattle.store.proofs.Blocks.{block-at, length-blocks, lent}
 use Rattle.store.proofs.PassLaws.{parse-commit, parse-content, parse-low}
 
 -- how many blocks are used
@@ -62,18 +63,11 @@ pub first-read : (bs rest : List Block) → bs ≡ label ∷ rest → readAll bs
 unfolding readAll
 first-read bs rest e = subst (λ (x : List Block). readAll x ≡ readFrom (bytesAt x) rest) (sym e) refl
 
--- how many commits
-abbrev pub count : List Block → ℕ
-count [] = 0
-count (label ∷ bs) = count bs
-count (content r b ∷ bs) = count bs
-count (commit r s t ls ∷ bs) = suc (count bs)
-count (blank ∷ bs) = count bs
-
 abbrev pub stating : Block → ℕ
 stating label = 0
 stating (content r b) = r
 stating (commit r s t ls) = r
+stating (mark m) = 0
 stating blank = 0
 
 -- the table after the commits of a list
@@ -82,6 +76,7 @@ after [] t = t
 after (label ∷ bs) t = after bs t
 after (content r b ∷ bs) t = after bs t
 after (commit r s q ls ∷ bs) t = after bs (next ls t)
+after (mark m ∷ bs) t = after bs t
 after (blank ∷ bs) t = after bs t
 
 pub count-more : (bs : List Block) (p q : ℕ) → p ≤ q → count (take p bs) ≤ count (take q bs)
@@ -91,39 +86,70 @@ count-more (b ∷ bs) (suc p) zero h = absurd (omega arith)
 count-more (label ∷ bs) (suc p) (suc q) h = count-more bs p q (omega arith)
 count-more (content r b ∷ bs) (suc p) (suc q) h = count-more bs p q (omega arith)
 count-more (commit r s t ls ∷ bs) (suc p) (suc q) h = let i = count-more bs p q (omega arith) in omega arith
+count-more (mark m ∷ bs) (suc p) (suc q) h = count-more bs p q (omega arith)
 count-more (blank ∷ bs) (suc p) (suc q) h = count-more bs p q (omega arith)
 
-pub count-one : (bs : List Block) (p : ℕ) → count (take (p + 1) bs) ≤ count (take p bs) + 1
-count-one bs p = subst (λ (x : ℕ). count (take x bs) ≤ count (take p bs) + 1) (sym (add-one p)) (go bs p)
-  where
-    go : (bs : List Block) (p : ℕ) → count (take (suc p) bs) ≤ count (take p bs) + 1
-    go [] p = omega arith
-    go (label ∷ bs) zero = omega arith
-    go (content r b ∷ bs) zero = omega arith
-    go (commit r s t ls ∷ bs) zero = omega arith
-    go (blank ∷ bs) zero = omega arith
-    go (label ∷ bs) (suc p) = go bs p
-    go (content r b ∷ bs) (suc p) = go bs p
-    go (commit r s t ls ∷ bs) (suc p) = let i = go bs p in omega arith
-    go (blank ∷ bs) (suc p) = go bs p
+-- one block more
+count-next : (bs : List Block) (p : ℕ) → count (take (suc p) bs) ≡ count (take p bs) + count (getD bs p blank ∷ [])
+count-next [] zero = refl
+count-next [] (suc p) = refl
+count-next (b ∷ bs) zero = omega arith
+count-next (label ∷ bs) (suc p) = count-next bs p
+count-next (content r b ∷ bs) (suc p) = count-next bs p
+count-next (commit r s t ls ∷ bs) (suc p) = let i = count-next bs p in omega arith
+count-next (mark m ∷ bs) (suc p) = count-next bs p
+count-next (blank ∷ bs) (suc p) = count-next bs p
 
--- a block in use states one more than the commits before it
-pub states : (look : ℕ → List ℕ) (at k : ℕ) (tables : List Table) (bs : List Block) → T (okFrom look at k tables bs) → (p : ℕ) → p < usedIn bs
-    → stating (getD bs p blank) ≡ length tables + count (take p bs)
+pub count-one : (bs : List Block) (p : ℕ) → count (take (p + 1) bs) ≤ count (take p bs) + 1
+count-one bs p = subst (λ (x : ℕ). count (take x bs) ≤ count (take p bs) + 1) (sym (add-one p)) (omega (arith, count-next bs p, one (getD bs p blank)))
+  where
+    one : (b : Block) → count (b ∷ []) ≤ 1
+    one label = omega arith
+    one (content r b) = omega arith
+    one (commit r s t ls) = omega arith
+    one (mark m) = omega arith
+    one blank = omega arith
+
+-- no commit stands among marks
+pub count-marks : (bs : List Block) (p k : ℕ) → ((j : ℕ) → p ≤ j → j < p + k → kindOf (getD bs j blank) ≡ 4) → count (take (p + k) bs) ≡ count (take p bs)
+count-marks bs p zero h = let e : p + 0 ≡ p = omega arith in ap (λ (x : ℕ). count (take x bs)) e
+count-marks bs p (suc k) h =
+    let e : p + suc k ≡ suc (p + k) = omega arith in
+    let i = count-marks bs p k (λ j l g. h j l (omega arith)) in
+    ap (λ (x : ℕ). count (take x bs)) e ∙ omega (arith, count-next bs (p + k), none (getD bs (p + k) blank) (h (p + k) (omega arith) (omega arith)))
+  where
+    none : (b : Block) → kindOf b ≡ 4 → count (b ∷ []) ≡ 0
+    none label e = refl
+    none (content r b) e = refl
+    none (commit r s t ls) e = absurd (omega arith)
+    none (mark m) e = refl
+    none blank e = refl
+
+-- what follows a mark is laid out too
+pub after-mark : (look : ℕ → List ℕ) (at k : ℕ) (tables : List Table) (m : Mark) (bs : List Block) → T (okFrom look at k tables (mark m ∷ bs)) → T (okFrom look (suc at) 0 tables bs)
 unfolding okFrom
-states look at k tables [] t p h = absurd (omega arith)
-states look at k tables (label ∷ bs) t p h = absurd t
-states look at k tables (blank ∷ bs) t p h = absurd (omega arith)
-states look at k tables (content r b ∷ bs) t zero h =
+after-mark look at k tables m bs t =
+    and-true (stands tables m) (okFrom look (suc at) 0 tables bs) (and-true (eqb k 0) (stands tables m && okFrom look (suc at) 0 tables bs) t .1) .1
+
+-- a content or a commit block states one more than the commits before it
+pub states : (look : ℕ → List ℕ) (at k : ℕ) (tables : List Table) (bs : List Block) → T (okFrom look at k tables bs) → (p : ℕ) → p < usedIn bs
+    → (kindOf (getD bs p blank) ≡ 4 → ⊥) → stating (getD bs p blank) ≡ length tables + count (take p bs)
+unfolding okFrom
+states look at k tables [] t p h d = absurd (omega arith)
+states look at k tables (label ∷ bs) t p h d = absurd t
+states look at k tables (blank ∷ bs) t p h d = absurd (omega arith)
+states look at k tables (content r b ∷ bs) t zero h d =
     let e = eqb→eq r (length tables) (and-true (eqb r (length tables)) (okFrom look at (suc k) tables bs) t .0) in omega arith
-states look at k tables (content r b ∷ bs) t (suc p) h =
-    states look at (suc k) tables bs (and-true (eqb r (length tables)) (okFrom look at (suc k) tables bs) t .1) p (omega arith)
-states look at k tables (commit r s q ls ∷ bs) t zero h =
+states look at k tables (content r b ∷ bs) t (suc p) h d =
+    states look at (suc k) tables bs (and-true (eqb r (length tables)) (okFrom look at (suc k) tables bs) t .1) p (omega arith) d
+states look at k tables (commit r s q ls ∷ bs) t zero h d =
     let e = eqb→eq r (length tables) (and-true (eqb r (length tables)) (laid look at k tables s ls && okFrom look (suc (at + k)) 0 (grown tables ls) bs) t .0) in omega arith
-states look at k tables (commit r s q ls ∷ bs) t (suc p) h =
+states look at k tables (commit r s q ls ∷ bs) t (suc p) h d =
     let u = and-true (eqb r (length tables)) (laid look at k tables s ls && okFrom look (suc (at + k)) 0 (grown tables ls) bs) t .1 in
-    let i = states look (suc (at + k)) 0 (grown tables ls) bs (and-true (laid look at k tables s ls) (okFrom look (suc (at + k)) 0 (grown tables ls) bs) u .1) p (omega arith) in
+    let i = states look (suc (at + k)) 0 (grown tables ls) bs (and-true (laid look at k tables s ls) (okFrom look (suc (at + k)) 0 (grown tables ls) bs) u .1) p (omega arith) d in
     i ∙ omega (arith, length-append tables (next ls (latest tables) ∷ []))
+states look at k tables (mark m ∷ bs) t zero h d = absurd (d refl)
+states look at k tables (mark m ∷ bs) t (suc p) h d = states look (suc at) 0 tables bs (after-mark look at k tables m bs t) p (omega arith) d
 
 -- all commits stand in the blocks in use
 counts-all : (look : ℕ → List ℕ) (bs : List Block) → length (readFrom look bs) ≤ count (take (usedIn bs) bs)
@@ -132,6 +158,7 @@ counts-all look [] = omega arith
 counts-all look (label ∷ bs) = omega arith
 counts-all look (content r b ∷ bs) = counts-all look bs
 counts-all look (commit r s t ls ∷ bs) = let i = counts-all look bs in omega arith
+counts-all look (mark m ∷ bs) = counts-all look bs
 counts-all look (blank ∷ bs) = omega arith
 
 -- the trail's table is the one after the blocks that have so many commits
@@ -141,6 +168,7 @@ first-table t [] = refl
 first-table t (label ∷ bs) = refl
 first-table t (content r b ∷ bs) = first-table t bs
 first-table t (commit r s q ls ∷ bs) = refl
+first-table t (mark m ∷ bs) = first-table t bs
 first-table t (blank ∷ bs) = refl
 
 pub trail-after : (look : ℕ → List ℕ) (at k : ℕ) (tables : List Table) (t : Table) (bs : List Block) → T (okFrom look at k tables bs) → (q : ℕ) → q ≤ usedIn bs
@@ -155,6 +183,7 @@ trail-after look at k tables t (content r b ∷ bs) u (suc q) h =
 trail-after look at k tables t (commit r s w ls ∷ bs) u (suc q) h =
     let v = and-true (eqb r (length tables)) (laid look at k tables s ls && okFrom look (suc (at + k)) 0 (grown tables ls) bs) u .1 in
     trail-after look (suc (at + k)) 0 (grown tables ls) (next ls t) bs (and-true (laid look at k tables s ls) (okFrom look (suc (at + k)) 0 (grown tables ls) bs) v .1) q (omega arith)
+trail-after look at k tables t (mark m ∷ bs) u (suc q) h = trail-after look (suc at) 0 tables t bs (after-mark look at k tables m bs u) q (omega arith)
 
 -- ---- the store
 
@@ -164,17 +193,18 @@ opened [] t = absurd t
 opened (label ∷ bs) t = (bs, refl, t)
 opened (content r b ∷ bs) t = absurd t
 opened (commit r s q ls ∷ bs) t = absurd t
+opened (mark m ∷ bs) t = absurd t
 opened (blank ∷ bs) t = absurd t
 
 pub used-few : (bs : List Block) → usedIn bs ≤ length bs
-unfolding usedIn
 used-few [] = omega arith
 used-few (label ∷ bs) = let i = used-few bs in omega arith
 used-few (content r b ∷ bs) = let i = used-few bs in omega arith
 used-few (commit r s q ls ∷ bs) = let i = used-few bs in omega arith
+used-few (mark m ∷ bs) = let i = used-few bs in omega arith
 used-few (blank ∷ bs) = omega arith
 
--- a block in use after the label is a content or a commit block
+-- a block in use after the label is a content or a commit block or a mark
 pub kinds : (look : ℕ → List ℕ) (at k : ℕ) (tables : List Table) (bs : List Block) → T (okFrom look at k tables bs) → (p : ℕ) → p < usedIn bs → 2 ≤ kindOf (getD bs p blank)
 unfolding okFrom
 kinds look at k tables [] t p h = absurd (omega arith)
@@ -187,18 +217,20 @@ kinds look at k tables (commit r s q ls ∷ bs) t zero h = omega arith
 kinds look at k tables (commit r s q ls ∷ bs) t (suc p) h =
     let u = and-true (eqb r (length tables)) (laid look at k tables s ls && okFrom look (suc (at + k)) 0 (grown tables ls) bs) t .1 in
     kinds look (suc (at + k)) 0 (grown tables ls) bs (and-true (laid look at k tables s ls) (okFrom look (suc (at + k)) 0 (grown tables ls) bs) u .1) p (omega arith)
+kinds look at k tables (mark m ∷ bs) t zero h = omega arith
+kinds look at k tables (mark m ∷ bs) t (suc p) h = kinds look (suc at) 0 tables bs (after-mark look at k tables m bs t) p (omega arith)
 
-stating-two : (l : List ℕ) → 2 ≤ kindOf (parse l) → stating (parse l) ≡ twoAt l 4
-stating-two l h =
+stating-two : (l : List ℕ) → 2 ≤ kindOf (parse l) → (kindOf (parse l) ≡ 4 → ⊥) → stating (parse l) ≡ twoAt l 4
+stating-two l h d =
     elim (eq-or (kindOf (parse l)) 2) [
       | inl e ↦ ap stating (parse-content l e)
-      | inr o ↦ ap stating (parse-commit l (omega (arith, parse-low l)))
+      | inr o ↦ ap stating (parse-commit l (omega (arith, parse-low l, o, d)))
     ]
 
 module _ (s : List ℕ) (n used : ℕ) (A : Passed s n used) where
   pub okAll : T (ok (blocksOf n s))
   unfolding lawful
-  okAll = and-true (all (shaped fieldsOf parse fitsBlock) (parts n s)) (ok (blocksOf n s)) (subst T (sym (A .laws)) tt) .1
+  okAll = and-true (ok (blocksOf n s)) (marksOk (marks (logAll (blocksOf n s)))) (and-true (all (shaped fieldsOf parse fitsBlock) (parts n s)) (ok (blocksOf n s) && marksOk (marks (logAll (blocksOf n s)))) (subst T (sym (A .laws)) tt) .1) .0
 
   abbrev rest : List Block
   rest = opened (blocksOf n s) okAll .0
@@ -215,52 +247,60 @@ module _ (s : List ℕ) (n used : ℕ) (A : Passed s n used) where
   pub used-high : used ≤ n
   used-high = omega (arith, A .inUse, used-few (blocksOf n s), length-blocks n s)
 
-  -- the revision that block p states
-  pub rev-at : (p : ℕ) → 1 ≤ p → p < used → revAt s p ≡ 1 + count (take (p - 1) rest)
-  rev-at zero h g = absurd (omega arith)
-  rev-at (suc p) h g =
+  -- the era of block p
+  pub era-rest : (p : ℕ) → 1 ≤ p → eraAt (blocksOf n s) p ≡ 1 + count (take (p - 1) rest)
+  era-rest zero h = absurd (omega arith)
+  era-rest (suc p) h =
+      let e : p ≡ suc p - 1 = omega arith in
+      ap (λ (x : List Block). eraAt x (suc p)) whole ∙ ap (λ (x : ℕ). 1 + count (take x rest)) e
+
+  -- the revision that block p states, where it is no mark
+  pub rev-at : (p : ℕ) → 1 ≤ p → p < used → (kindOf (parse (lent s p)) ≡ 4 → ⊥) → twoAt (lent s p) 4 ≡ eraAt (blocksOf n s) p
+  rev-at zero h g d = absurd (omega arith)
+  rev-at (suc p) h g d =
       let b : getD (blocksOf n s) (suc p) blank ≡ parse (lent s (suc p)) = block-at n (suc p) s (omega (arith, used-high)) in
       let w : getD (blocksOf n s) (suc p) blank ≡ getD rest p blank = ap (λ (x : List Block). getD x (suc p) blank) whole in
       let i : p < usedIn rest = omega (arith, used-is) in
       let t = opened (blocksOf n s) okAll .2 in
       let k : 2 ≤ kindOf (parse (lent s (suc p))) = subst (λ (x : Block). 2 ≤ kindOf x) (sym w ∙ b) (kinds (bytesAt (blocksOf n s)) 1 0 (replicate 32 0 ∷ []) rest t p i) in
-      let e : p ≡ suc p - 1 = omega arith in
-      ap (λ (x : List ℕ). twoAt x 4) (sym (lent-is s (suc p))) ∙ sym (stating-two (lent s (suc p)) k) ∙ ap stating (sym b ∙ w)
-      ∙ states (bytesAt (blocksOf n s)) 1 0 (replicate 32 0 ∷ []) rest t p i ∙ ap (λ (x : ℕ). 1 + count (take x rest)) e
+      sym (stating-two (lent s (suc p)) k d) ∙ ap stating (sym b ∙ w)
+      ∙ states (bytesAt (blocksOf n s)) 1 0 (replicate 32 0 ∷ []) rest t p i (λ e. d (ap kindOf (sym b ∙ w) ∙ e))
+      ∙ sym (ap (λ (x : List Block). eraAt x (suc p)) whole)
 
-  pub rising : (p q : ℕ) → 1 ≤ p → p ≤ q → q < used → revAt s p ≤ revAt s q
-  rising p q h g l =
-      let a = rev-at p h (omega arith) in
-      let b = rev-at q (omega arith) l in
-      omega (arith, count-more rest (p - 1) (q - 1) (omega arith))
+  history-count : length (historyOf n s) ≤ count (take (usedIn rest) rest)
+  unfolding historyOf
+  history-count = subst (λ (x : List Commit). length x ≤ count (take (usedIn rest) rest)) (sym (first-read (blocksOf n s) rest whole)) (counts-all (bytesAt (blocksOf n s)) rest)
 
-  -- just r commits stand before the bound
-  module _ (r b : ℕ) (G : Bound s used r b) (last : r ≤ length (historyOf n s)) where
-    at-most : count (take (b - 1) rest) ≤ r
-    at-most =
-        elim (eq-or b 1) [
-          | inl e ↦ (let d : b - 1 ≡ 0 = omega arith in rw d (omega arith))
-          | inr o ↦ (
-              let v = rev-at (b - 1) (omega (arith, G .low)) (omega (arith, G .low, G .high)) in
-              let w = G .before (b - 1) (omega (arith, G .low)) (omega (arith, G .low)) in
-              let d : b - 1 - 1 + 1 ≡ b - 1 = omega (arith, G .low) in
-              let c : count (take (b - 1) rest) ≤ count (take (b - 1 - 1) rest) + 1 = subst (λ (x : ℕ). count (take x rest) ≤ count (take (b - 1 - 1) rest) + 1) d
-              (count-one rest (b - 1 - 1)) in
-              omega arith)
-        ]
+  module _ (r : ℕ) (last : r ≤ length (historyOf n s)) where
+    -- past the used blocks every commit stands before
+    pub era-end : r < eraAt (blocksOf n s) used
+    era-end =
+        let d : used - 1 ≡ usedIn rest = omega (arith, used-is) in
+        let e : eraAt (blocksOf n s) used ≡ 1 + count (take (usedIn rest) rest) = era-rest used used-low ∙ ap (λ (x : ℕ). 1 + count (take x rest)) d in
+        omega (arith, e, history-count)
 
-    history-count : length (historyOf n s) ≤ count (take (usedIn rest) rest)
-    unfolding historyOf
-    history-count = subst (λ (x : List Commit). length x ≤ count (take (usedIn rest) rest)) (sym (first-read (blocksOf n s) rest whole)) (counts-all (bytesAt (blocksOf n s)) rest)
+    -- just r commits stand before the bound
+    module _ (b : ℕ) (G : Bound (blocksOf n s) used r b) where
+      at-most : count (take (b - 1) rest) ≤ r
+      at-most =
+          elim (eq-or b 1) [
+            | inl e ↦ (let d : b - 1 ≡ 0 = omega arith in rw d (omega arith))
+            | inr o ↦ (
+                let v = era-rest (b - 1) (omega (arith, G .low)) in
+                let w = G .before (b - 1) (omega (arith, G .low)) (omega (arith, G .low)) in
+                let d : b - 1 - 1 + 1 ≡ b - 1 = omega (arith, G .low) in
+                let c : count (take (b - 1) rest) ≤ count (take (b - 1 - 1) rest) + 1 = subst (λ (x : ℕ). count (take x rest) ≤ count (take (b - 1 - 1) rest) + 1) d
+                (count-one rest (b - 1 - 1)) in
+                omega arith)
+          ]
 
-    at-least : r ≤ count (take (b - 1) rest)
-    at-least =
-        elim (eq-or b used) [
-          | inl e ↦ (
-              let d : b - 1 ≡ usedIn rest = omega (arith, used-is) in
-              rw d (omega (arith, history-count)))
-          | inr o ↦ omega (arith, rev-at b (G .low) (omega (arith, G .high)), G .after b (omega arith) (omega (arith, G .high)))
-        ]
+      at-least : r ≤ count (take (b - 1) rest)
+      at-least =
+          let v = era-rest b (G .low) in
+          elim (eq-or b used) [
+            | inl e ↦ (let w = subst (λ (x : ℕ). r < eraAt (blocksOf n s) x) (sym e) era-end in omega arith)
+            | inr o ↦ omega (arith, v, G .after b (omega arith) (omega (arith, G .high)))
+          ]
 
-    pub counted : count (take (b - 1) rest) ≡ r
-    counted = omega (arith, at-most, at-least)
+      pub counted : count (take (b - 1) rest) ≡ r
+      counted = omega (arith, at-most, at-least)

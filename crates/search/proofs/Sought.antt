@@ -11,7 +11,7 @@ use lib.Dec.{eqb}
 use lib.ListN.{getD, getD-replicate, length, replicate, set, take}
 use lib.Seq.{getD-set-other, getD-set-same, take-suc}
 use Rattle.block.proofs.Says.{eq-or}
-use Rattle.model.specs.Blocks.{Block, Line, blank, bytesAt, commit, content, label}
+use Rattle.model.specs.Blocks.{Block, Line, blank, bytesAt, commit, content, label, mark}
 use Rattle.model.specs.Layout.{Table, next, puts}
 use Rattle.model.specs.Pass.{tablesOf}
 use Rattle.model.specs.Store.{blocksOf, historyOf}
@@ -55,16 +55,19 @@ abbrev one : Block → Table → Table
 one label t = t
 one (content r b) t = t
 one (commit r s q ls) t = next ls t
+one (mark m) t = t
 one blank t = t
 
 after-snoc : (xs : List Block) (x : Block) (t : Table) → after (xs ++ (x ∷ [])) t ≡ one x (after xs t)
 after-snoc [] label t = refl
 after-snoc [] (content r b) t = refl
 after-snoc [] (commit r s q ls) t = refl
+after-snoc [] (mark m) t = refl
 after-snoc [] blank t = refl
 after-snoc (label ∷ xs) x t = after-snoc xs x t
 after-snoc (content r b ∷ xs) x t = after-snoc xs x t
 after-snoc (commit r s q ls ∷ xs) x t = after-snoc xs x (next ls t)
+after-snoc (mark m ∷ xs) x t = after-snoc xs x t
 after-snoc (blank ∷ xs) x t = after-snoc xs x t
 
 length-after : (xs : List Block) (t : Table) → length (after xs t) ≡ length t
@@ -72,12 +75,14 @@ length-after [] t = refl
 length-after (label ∷ xs) t = length-after xs t
 length-after (content r b ∷ xs) t = length-after xs t
 length-after (commit r s q ls ∷ xs) t = length-after xs (next ls t) ∙ length-next ls t
+length-after (mark m ∷ xs) t = length-after xs t
 length-after (blank ∷ xs) t = length-after xs t
 
 one-block : (i : ℕ) (x : Block) (older : Found) (t : Table) → i < length t → older .block ≡ getD t i 0 → inBlock i x older .block ≡ getD (one x t) i 0
 one-block i label older t h e = e
 one-block i (content r b) older t h e = e
 one-block i (commit r s q ls) older t h e = hit-block i r ls older ∙ ap (hit i ls) e ∙ sym (next-at ls t i h)
+one-block i (mark m) older t h e = e
 one-block i blank older t h e = e
 
 back-after : (bs : List Block) (i : ℕ) → i < 32 → (b : ℕ) → b ≤ length bs → back (label ∷ bs) i (suc b) .block ≡ getD (after (take b bs) (replicate 32 0)) i 0
@@ -90,7 +95,7 @@ back-after bs i h (suc b) g =
     ∙ after-snoc (take b bs) (getD bs b blank) (replicate 32 0)))
 
 -- THE STATEMENT: before the bound of r stands what tree r's table has
-pub sought : (s : List ℕ) (n used r b i : ℕ) → Passed s n used → Bound s used r b → r ≤ length (historyOf n s) → i < 32
+pub sought : (s : List ℕ) (n used r b i : ℕ) → Passed s n used → Bound (blocksOf n s) used r b → r ≤ length (historyOf n s) → i < 32
     → back (blocksOf n s) i b .block ≡ getD (getD (tablesOf (blocksOf n s)) r []) i 0
 unfolding trailOf
 sought s n used r b i A G last h =
@@ -102,6 +107,6 @@ sought s n used r b i A G last h =
     ∙ ap (λ (x : ℕ). back (label ∷ bs) i x .block) e
     ∙ back-after bs i h (b - 1) (omega (arith, used-few bs))
     ∙ ap (λ (x : Table). getD x i 0) (sym (trail-after (bytesAt (blocksOf n s)) 1 0 (replicate 32 0 ∷ []) (replicate 32 0) bs (q .2) (b - 1) u))
-    ∙ ap (λ (x : ℕ). getD (getD (trail (replicate 32 0) bs) x []) i 0) (counted s n used A r b G last)
+    ∙ ap (λ (x : ℕ). getD (getD (trail (replicate 32 0) bs) x []) i 0) (counted s n used A r last b G)
     ∙ ap (λ (x : List Block). getD (getD (trailOf x) r []) i 0) (sym (q .1))
     ∙ ap (λ (x : List Table). getD (getD x r []) i 0) (sym (tables-trail (blocksOf n s)))

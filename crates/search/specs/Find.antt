@@ -6,15 +6,16 @@ use mathlib.Core.List.{List, [], _∷_}
 use mathlib.Core.Option.{none}
 use mathlib.Core.Path.{_≡_}
 use lib.Dec.{eqb}
-use lib.ListN.{drop, getD, length, take}
-use Rattle.block.specs.Field.{twoAt}
-use Rattle.model.specs.Blocks.{Block, Line, blank, bytesAt, commit, content, label}
+use lib.ListN.{getD, length, take}
+use Rattle.block.specs.Buffer.{blockAt}
+use Rattle.model.specs.Blocks.{Block, Line, blank, bytesAt, commit, content, label, mark, parse}
 use Rattle.model.specs.Calls.{storeConditions}
 use Rattle.model.specs.History.{Bytes, namer}
 use Rattle.model.specs.Refusals.{firstOf}
 use Rattle.model.specs.Store.{blockCount, blockUsed, blocksOf, storeHistory, usedOf}
 use Rattle.model.specs.declared.Span.{Span}
 use Rattle.search.specs.declared.Found.{Found}
+use Rattle.shape.specs.Shape.{kindOf}
 
 -- a store of n blocks that no line 1 to 3 refuses, with U of them used
 pub record Accepted (store : Bytes) (n used : ℕ) : Type 0 where
@@ -22,16 +23,32 @@ pub record Accepted (store : Bytes) (n used : ℕ) : Type 0 where
   pub count : n ≡ blockCount store
   pub inUse : used ≡ usedOf store
 
--- the revision that block p states
-abbrev pub revAt : List ℕ → ℕ → ℕ
-revAt s p = twoAt (take 512 (drop (p * 512) s)) 4
+-- how many of the blocks are commit blocks
+abbrev pub count : List Block → ℕ
+count [] = 0
+count (label ∷ bs) = count bs
+count (content r b ∷ bs) = count bs
+count (commit r s t ls ∷ bs) = suc (count bs)
+count (mark m ∷ bs) = count bs
+count (blank ∷ bs) = count bs
 
--- of the used blocks after the label, those before block b state at most revision r, and the others more
-pub record Bound (s : List ℕ) (used r b : ℕ) : Type 0 where
+-- one more than the commits before block p: what a content or a commit block there states, and a mark doesn't
+abbrev pub eraAt : List Block → ℕ → ℕ
+eraAt bs p = 1 + count (take p bs)
+
+-- of the used blocks after the label, those before block b belong to eras up to r, and the others to later ones
+pub record Bound (bs : List Block) (used r b : ℕ) : Type 0 where
   pub low : 1 ≤ b
   pub high : b ≤ used
-  pub before : (p : ℕ) → 1 ≤ p → p < b → revAt s p ≤ r
-  pub after : (p : ℕ) → b ≤ p → p < used → r < revAt s p
+  pub before : (p : ℕ) → 1 ≤ p → p < b → eraAt bs p ≤ r
+  pub after : (p : ℕ) → b ≤ p → p < used → r < eraAt bs p
+
+-- q is the first block from `start` on and before `stop` that is no mark, or else `stop`
+pub record Dated (s : Bytes) (start stop q : ℕ) : Type 0 where
+  pub low : start ≤ q
+  pub high : q ≤ stop
+  pub passed : (p : ℕ) → start ≤ p → p < q → kindOf (parse (blockAt s p)) ≡ 4
+  pub dated : q < stop → kindOf (parse (blockAt s q)) ≡ 4 → ⊥
 
 -- no commit names the sheet
 abbrev pub nowhere : Found
@@ -46,6 +63,7 @@ abbrev pub inBlock : ℕ → Block → Found → Found
 inBlock i label older = older
 inBlock i (content r b) older = older
 inBlock i (commit r seat stamp ls) older = hitIn i r ls older
+inBlock i (mark m) older = older
 inBlock i blank older = older
 
 -- "goes back commit by commit .. and stops at the first hit", from the block before block b

@@ -3,7 +3,7 @@ use model::Action;
 use model::LogEntry;
 use model::Source;
 use model::Span;
-ghost use Prim.Native.Nat.{_+_, _<_, _≤_};
+ghost use Prim.Native.Nat.{_*_, _+_, _<_, _≤_};
 ghost use mathlib.Core.Path.{_≡_};
 ghost use lib.ListN.{drop, length};
 ghost use Rattle.model.specs.Blocks.{parseLine, parseLines};
@@ -14,7 +14,7 @@ ghost use Rattle.model.specs.Store.{blockCount, blocksOf, storeHistory};
 ghost use Rattle.model.specs.Types.{answerOf};
 ghost use Rattle.model.specs.declared.Answer.the-variants.{Logged};
 ghost use Rattle.search.specs.Deed.{deedIn, deedOf};
-ghost use Rattle.search.specs.Find.{Accepted, Bound, Spanned, back, foundIn};
+ghost use Rattle.search.specs.Find.{Accepted, Bound, Dated, Spanned, back, foundIn};
 
 // What the last commit that names a sheet says of it: the block that the sheet uses since, 0 for a delete, and the commit's revision. Both are 0 where none names it.
 pub struct Found {
@@ -22,19 +22,53 @@ pub struct Found {
     pub revision: u32,
 }
 
-// The first block after commit r, or after the label where r is 0: the interval is halved, since the revisions that blocks state rise.
+// The first block from `from` on and before `to` that is no mark, else `to`.
+fn next_dated(store: &[u8], from: usize, to: usize) -> usize
+    requires { ⌜ (from ≤ to) × (to * 512 ≤ length (now store)) ⌝ }
+    ensures { λ x. ⌜ Dated (now (store .entry)) from to x ⌝ }
+{
+    let mut q = from;
+    while q < to {
+        let a = q * 512;
+        let e = a + 512;
+        if shape::kind(&store[a..e]) != 4 {
+            return q;
+        }
+        q += 1;
+    }
+    q
+}
+
+// The first block after commit r, or after the label where r is 0: the interval is halved, since the revisions that content and commit blocks state rise. What a mark
+// states is not where it stands, so the next block that is no mark is asked in its place.
 fn bound(store: &[u8], n: usize, used: usize, r: usize) -> usize
-    requires { ⌜ Accepted (now store) n used ⌝ }
-    ensures { λ x. ⌜ Bound (now (store .entry)) used r x ⌝ }
+    requires { ⌜ Accepted (now store) n used × (r ≤ last (storeHistory (now store))) ⌝ }
+    ensures { λ x. ⌜ Bound (blocksOf used (now (store .entry))) used r x ⌝ }
 {
     let mut lo: usize = 1;
     let mut hi = used;
     while lo < hi {
         let mid = (lo + hi) / 2;
-        let a = mid * 512;
+        let c = mid * 512;
+        let d = c + 512;
+        let b = &store[c..d];
+        if shape::kind(b) != 4 {
+            if shape::two_at(b, 4) as usize <= r {
+                lo = mid + 1;
+                continue;
+            }
+            hi = mid;
+            continue;
+        }
+        let q = next_dated(store, mid, hi);
+        if hi <= q {
+            hi = mid;
+            continue;
+        }
+        let a = q * 512;
         let e = a + 512;
         if shape::two_at(&store[a..e], 4) as usize <= r {
-            lo = mid + 1;
+            lo = q + 1;
             continue;
         }
         hi = mid;

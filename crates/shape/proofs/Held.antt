@@ -14,19 +14,22 @@ use lib.Seq.{drop-cons, ext-getD, getD-drop, getD-take, length-take-le}
 use Rattle.block.proofs.Says.{eq-or, says-false, says-same}
 use Rattle.block.specs.Field.{fourAt, twoAt}
 use Rattle.block.specs.Lists.{same}
-use Rattle.model.specs.Blocks.{blank, commit, held, parse, parseLines}
+use Rattle.model.specs.Blocks.{blank, commit, held, mark, parse, parseLines}
+use Rattle.model.specs.Log.{released}
 
 pub held-none : (l : List ℕ) → (getD l 0 0 ≡ 2 → ⊥) → held (parse l) ≡ []
 unfolding parse
 held-none l n =
     elim (eq-or (getD l 0 0) 1) [
       | inl e ↦ rw (eq-eqb (getD l 0 0) 1 e)
-      | inr o ↦ rw (ne-eqb (getD l 0 0) 1 o, ne-eqb (getD l 0 0) 2 n) (last (eqb (getD l 0 0) 3))
+      | inr o ↦ rw (ne-eqb (getD l 0 0) 1 o, ne-eqb (getD l 0 0) 2 n) (last (eqb (getD l 0 0) 3) (eqb (getD l 0 0) 6))
     ]
   where
-    last : (t : Bool) → held (cond t (commit (twoAt l 4) (getD l 6 0) (fourAt l 8) (parseLines (twoAt l 2) (drop 16 l))) blank) ≡ []
-    last true = refl
-    last false = refl
+    last : (t u : Bool)
+        → held (cond t (commit (twoAt l 4) (getD l 6 0) (fourAt l 8) (parseLines (twoAt l 2) (drop 16 l))) (cond u (mark (released (twoAt l 4) (getD l 6 0) (fourAt l 8))) blank)) ≡ []
+    last true u = refl
+    last false true = refl
+    last false false = refl
 
 pub held-is : (l : List ℕ) → getD l 0 0 ≡ 2 → held (parse l) ≡ take (twoAt l 2) (drop 16 l)
 unfolding parse

@@ -5,17 +5,19 @@ use mathlib.Core.Bool.{Bool, _&&_, true}
 use mathlib.Core.List.{List, [], _∷_}
 use mathlib.Core.Logic.{inl, inr}
 use mathlib.Core.Path.{_∙_, _≡_, ap, refl, subst, sym}
+use native.Mathlib.Decide.{decLe}
 use native.Mathlib.Omega.{arith}
 use borrow.Author.Tests.{eq-eqb, ne-eqb}
 use lib.Dec.{T, eqb, leb}
-use lib.ListN.{drop, getD, length, length-drop, take}
+use lib.ListN.{List·getD-eq-default, drop, getD, length, length-drop, take}
 use lib.Seq.{drop-drop, getD-drop}
 use Rattle.block.proofs.Parts.{first-sixteen}
 use Rattle.block.proofs.Says.{Says, and-true, bool-alike, eq-or, says-alike, says-and, says-eq, says-le, true-and}
 use Rattle.block.specs.Field.{fourAt, twoAt}
 use Rattle.block.specs.Lists.{All, allFrom, same}
-use Rattle.model.specs.Blocks.{FitsLine, commit, fieldsOf, fitsBlock, linesOf, parse, parseLines}
+use Rattle.model.specs.Blocks.{Block, FitsLine, commit, fieldsOf, fitsBlock, linesOf, mark, parse, parseLines}
 use Rattle.model.specs.Codec.{padTo, padded, shaped}
+use Rattle.model.specs.Log.{released}
 use Rattle.laws.proofs.BlockCodes.{block-coded}
 use Rattle.shape.proofs.Scan.{up}
 use Rattle.shape.proofs.ScanLines.{LinesOk, eights, past, says-lines}
@@ -162,6 +164,19 @@ says-past m k l h =
     none : (i : ℕ) → _≡_ {A = ℕ} (getD [] i 0) 0
     none i = refl
 
+-- of each number below n, the greatest first
+abbrev Each : (ℕ → Type 0) → ℕ → Type 0
+Each P zero = Unit {0}
+Each P (suc n) = P n × Each P n
+
+each : (P : ℕ → Type 0) (n : ℕ) → Each P n → (i : ℕ) → i < n → P i
+each P zero p i h = absurd (omega arith)
+each P (suc n) p i h =
+    elim (eq-or i n) [
+      | inl e ↦ subst P (sym e) (p .0)
+      | inr o ↦ each P n (p .1) i (omega arith)
+    ]
+
 and-then : (a b : Bool) → a ≡ true → (a && b) ≡ b
 and-then a b e = ap (λ (x : Bool). x && b) e
 
@@ -189,16 +204,90 @@ module _ (l : List ℕ) (size : length l ≡ 512) where
   pub label-then : (z : Bool) → z ≡ zeroFrom l 2 506 → getD l 0 0 ≡ 1 → getD l 1 0 ≡ 1 → z ≡ shaped fieldsOf parse fitsBlock l
   label-then z e kind o = e ∙ sym (label-shaped kind ∙ and-then (eqb (getD l 1 0) 1) (zeroFrom l 2 506) (eq-eqb (getD l 1 0) 1 o))
 
-  pub blank-shaped : (getD l 0 0 ≡ 1 → ⊥) → (getD l 0 0 ≡ 2 → ⊥) → (getD l 0 0 ≡ 3 → ⊥) → shaped fieldsOf parse fitsBlock l ≡ zeroFrom l 0 508
+  pub blank-shaped : (getD l 0 0 ≡ 1 → ⊥) → (getD l 0 0 ≡ 2 → ⊥) → (getD l 0 0 ≡ 3 → ⊥) → (getD l 0 0 ≡ 6 → ⊥)
+      → shaped fieldsOf parse fitsBlock l ≡ zeroFrom l 0 508
   unfolding shaped parse padded
-  blank-shaped n₁ n₂ n₃ =
+  blank-shaped n₁ n₂ n₃ n₆ =
       let s = says-padded 508 (0 ∷ []) l (omega arith) in
-      rw (ne-eqb (getD l 0 0) 1 n₁, ne-eqb (getD l 0 0) 2 n₂, ne-eqb (getD l 0 0) 3 n₃)
+      rw (ne-eqb (getD l 0 0) 1 n₁, ne-eqb (getD l 0 0) 2 n₂, ne-eqb (getD l 0 0) 3 n₃, ne-eqb (getD l 0 0) 6 n₆)
       (says-alike s (says-zeros l 0 508) (λ e i a b. sym (e i (omega arith)) ∙ nought i) (λ z i b. nought i ∙ sym (z i (omega arith) (omega arith))))
     where
       nought : (i : ℕ) → _≡_ {A = ℕ} (getD (0 ∷ []) i 0) 0
       nought zero = refl
       nought (suc i) = refl
+
+  module _ (bytes : (i : ℕ) → getD l i 0 < 256) (kind : getD l 0 0 ≡ 6) where
+    abbrev release : Block
+    release = mark (released (twoAt l 4) (getD l 6 0) (fourAt l 8))
+
+    release-fits : T (fitsBlock release)
+    release-fits =
+        block-coded .says release .so-true (omega (arith, bytes 4, bytes 5), bytes 6, omega (arith, bytes 8, bytes 9, bytes 10, bytes 11))
+
+    -- the bytes as they must be
+    says-release : Says (same (padded (fieldsOf release)) (take 508 l))
+        (((i : ℕ) → 1 ≤ i → i < 1 + 3 → getD l i 0 ≡ 0) × (getD l 7 0 ≡ 0) × ((i : ℕ) → 12 ≤ i → i < 12 + 496 → getD l i 0 ≡ 0))
+    unfolding padded
+    says-release =
+        let s = says-padded 508 (fieldsOf release) l (omega arith) in
+        record {
+          true-so = λ t. let e = s .true-so t in
+              ((λ i a b. sym (e i (omega arith)) ∙ early i b a), sym (e 7 (omega arith)), (λ i a b. sym (e i (omega arith)) ∙ late i a));
+          so-true = λ p. s .so-true (back (p .0) (p .1) (p .2));
+        }
+      where
+        early : (i : ℕ) → i < 4 → 1 ≤ i → getD (fieldsOf release) i 0 ≡ 0
+        early = each (λ (i : ℕ). 1 ≤ i → getD (fieldsOf release) i 0 ≡ 0) 4 ((λ a. refl), ((λ a. refl), ((λ a. refl), ((λ a. absurd (omega arith)), tt))))
+
+        late : (i : ℕ) → 12 ≤ i → getD (fieldsOf release) i 0 ≡ 0
+        late i a = List·getD-eq-default (fieldsOf release) 0 {n = i} a
+
+        back : ((i : ℕ) → 1 ≤ i → i < 1 + 3 → getD l i 0 ≡ 0) → getD l 7 0 ≡ 0 → ((i : ℕ) → 12 ≤ i → i < 12 + 496 → getD l i 0 ≡ 0)
+            → (i : ℕ) → i < 508 → getD (fieldsOf release) i 0 ≡ getD l i 0
+        back z e w i b =
+            elim (decLe 12 i) [
+              | yes a ↦ late i a ∙ sym (w i a (omega arith))
+              | no n ↦ each (λ (j : ℕ). getD (fieldsOf release) j 0 ≡ getD l j 0) 12 (
+                omega (arith, bytes 8, bytes 9, bytes 10),
+                (
+                  omega (arith, bytes 8, bytes 9, bytes 10),
+                  (
+                    omega (arith, bytes 8, bytes 9),
+                    (
+                      omega (arith, bytes 8),
+                      (
+                        sym e,
+                        (
+                          refl,
+                          (
+                            omega (arith, bytes 4),
+                            (
+                              omega (arith, bytes 4),
+                              (sym (z 3 (omega arith) (omega arith)), (sym (z 2 (omega arith) (omega arith)), (sym (z 1 (omega arith) (omega arith)), (sym kind, tt)))),
+                            ),
+                          ),
+                        ),
+                      ),
+                    ),
+                  ),
+                ),
+              )
+                  i (omega arith)
+            ]
+
+    pub release-shaped : shaped fieldsOf parse fitsBlock l ≡ (zeroFrom l 1 3 && (eqb (getD l 7 0) 0 && zeroFrom l 12 496))
+    unfolding shaped parse
+    release-shaped =
+        let r = says-and (says-zeros l 1 3) (says-and (says-eq (getD l 7 0) 0) (says-zeros l 12 496)) in
+        rw kind
+        (bool-alike (fitsBlock release && same (padded (fieldsOf release)) (take 508 l)) _
+        (λ t. let p = says-release .true-so (and-true (fitsBlock release) (same (padded (fieldsOf release)) (take 508 l)) t .1) in r .so-true (p .0, (p .1, p .2)))
+        (λ t. let q = r .true-so t in true-and (fitsBlock release) (same (padded (fieldsOf release)) (take 508 l)) release-fits (says-release .so-true (q .0, q .1 .0, q .1 .1))))
+
+    -- the answer of the last test, as in label-then
+    pub release-then : (z : Bool) → z ≡ zeroFrom l 12 496 → zeroFrom l 1 3 ≡ true → getD l 7 0 ≡ 0 → z ≡ shaped fieldsOf parse fitsBlock l
+    release-then z e f o =
+        e ∙ sym (release-shaped ∙ and-then (zeroFrom l 1 3) (eqb (getD l 7 0) 0 && zeroFrom l 12 496) f ∙ and-then (eqb (getD l 7 0) 0) (zeroFrom l 12 496) (eq-eqb (getD l 7 0) 0 o))
 
   module _ (bytes : (i : ℕ) → getD l i 0 < 256) (kind : getD l 0 0 ≡ 3) where
     few-fit : twoAt l 2 ≤ 32 → T (fitsBlock (commit (twoAt l 4) (getD l 6 0) (fourAt l 8) (parseLines (twoAt l 2) (drop 16 l))))

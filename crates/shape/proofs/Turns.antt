@@ -33,10 +33,19 @@ lines-all s m =
     let d : 16 + 8 * 0 ≡ 16 = omega arith in
     rw (e, d)
 
-pub kind-past : (l : List ℕ) → 3 < getD l 0 0 → kindOf (parse l) ≡ 0
+pub kind-mark : (l : List ℕ) → getD l 0 0 ≡ 6 → kindOf (parse l) ≡ 4
 unfolding parse
-kind-past l h =
-    rw (ne-eqb (getD l 0 0) 1 (λ e. omega arith), ne-eqb (getD l 0 0) 2 (λ e. omega arith), ne-eqb (getD l 0 0) 3 (λ e. omega arith))
+kind-mark l e = rw e
+
+pub kind-past : (l : List ℕ) → 3 < getD l 0 0 → (getD l 0 0 ≡ 6 → ⊥) → kindOf (parse l) ≡ 0
+unfolding parse
+kind-past l h n =
+    rw (
+      ne-eqb (getD l 0 0) 1 (λ e. omega arith),
+      ne-eqb (getD l 0 0) 2 (λ e. omega arith),
+      ne-eqb (getD l 0 0) 3 (λ e. omega arith),
+      ne-eqb (getD l 0 0) 6 n,
+    )
 
 pub kind-is : (l : List ℕ) → getD l 0 0 ≤ 3 → kindOf (parse l) ≡ getD l 0 0
 unfolding parse

@@ -5,13 +5,14 @@ use mathlib.Core.Bool.{Bool, _&&_, true}
 use mathlib.Core.List.{List}
 use lib.Dec.{eqb, leb}
 use lib.ListN.{drop, getD}
-use Rattle.model.specs.Blocks.{Block, blank, commit, content, label}
+use Rattle.model.specs.Blocks.{Block, blank, commit, content, label, mark}
 
--- the first byte of a block of each kind
+-- what a block is: 1 label, 2 content, 3 commit, 4 a mark, 0 blank
 abbrev pub kindOf : Block → ℕ
 kindOf label = 1
 kindOf (content r b) = 2
 kindOf (commit r s t ls) = 3
+kindOf (mark m) = 4
 kindOf blank = 0
 
 -- m changes, each with an action 1 to 4 and a zero in its byte 5

@@ -120,6 +120,20 @@ fn label_shape(s: &[u8]) -> bool
     zeros(s, 2, 508)
 }
 
+// Whether a block whose first byte is 6 has the shape of a release block.
+fn release_shape(s: &[u8]) -> bool
+    requires { ⌜ (length (now s) ≡ 512) × (getD (now s) 0 0 ≡ 6) ⌝ }
+    ensures { λ r. ⌜ r ≡ shaped fieldsOf parse fitsBlock (now (s .entry)) ⌝ }
+{
+    if !zeros(s, 1, 4) {
+        return false;
+    }
+    if s[7] != 0 {
+        return false;
+    }
+    zeros(s, 12, 508)
+}
+
 // Whether a block has the shape of what its first byte says.
 pub fn shape(s: &[u8]) -> bool
     requires { ⌜ length (now s) ≡ 512 ⌝ }
@@ -134,19 +148,25 @@ pub fn shape(s: &[u8]) -> bool
     if s[0] == 3 {
         return commit_shape(s);
     }
+    if s[0] == 6 {
+        return release_shape(s);
+    }
     zeros(s, 0, 508)
 }
 
-// What a block is by its first byte: 1 label, 2 content, 3 commit, and 0 for any other.
+// What a block is by its first byte: 1 label, 2 content, 3 commit, 4 a mark, and 0 for any other.
 pub fn kind(s: &[u8]) -> u8
     requires { ⌜ length (now s) ≡ 512 ⌝ }
     ensures { λ r. ⌜ r ≡ kindOf (parse (now (s .entry))) ⌝ }
 {
     let k = s[0];
-    if 3 < k {
-        return 0;
+    if k <= 3 {
+        return k;
     }
-    k
+    if k == 6 {
+        return 4;
+    }
+    0
 }
 
 // Whether no sheet stands twice in the m changes from byte `base` on. A sheet that was seen is marked.

@@ -6,7 +6,7 @@ use model::Place;
 use turns::Held;
 use turns::TurnRecord;
 ghost use mathlib.Core.Path.{_≡_};
-ghost use Rattle.model.specs.Calls.{addCall, clearCall, clearCutCall, commitCall, commitCutCall, copyCall, createCopy, createStore, deleteCall, editCall, logCall, moveCall, readPlace, revertCall, showPlace, statusCall, updateCall};
+ghost use Rattle.model.specs.Calls.{addCall, clearCall, clearCutCall, commitCall, commitCutCall, copyCall, createCopy, createStore, deleteCall, editCall, logCall, moveCall, panelPlace, readPlace, releaseCall, revertCall, showPlace, statusCall, updateCall};
 ghost use Rattle.model.specs.Types.{answerOf, placeOf};
 ghost use Rattle.model.specs.declared.Answer.the-variants.{Logged};
 ghost use Rattle.sheetstore.specs.Numbers.{answerNumbers, both, bothNumbers, copyNumbers, cutAs, cutBoth, cutBothNumbers, cutLeft, cutLeftNumbers, cutNumbers, left, leftNumbers, logNumbers, noLog, noStanding, partNumbers, standingNumbers};
@@ -248,6 +248,14 @@ pub extern "C" fn sheets_read(store: &[u8], revision: u32, sheet: u32) -> Sheets
     part_numbers(engine::read_place(store, revision, sheet))
 }
 
+// What a panel shows of a sheet at a revision: where `sheets_read` finds it at the greatest released revision up to this one.
+#[no_mangle]
+pub extern "C" fn sheets_panel_read(store: &[u8], revision: u32, sheet: u32) -> SheetsPart
+    ensures { λ r. ⌜ r ≡ partNumbers (panelPlace (now (store .entry)) revision sheet) ⌝ }
+{
+    part_numbers(engine::panel_place(store, revision, sheet))
+}
+
 // What a revision did to a sheet.
 #[no_mangle]
 pub extern "C" fn sheets_log(store: &[u8], revision: u32, sheet: u32) -> SheetsLog
@@ -360,6 +368,19 @@ pub extern "C" fn sheets_clear(store: &mut [u8]) -> SheetsAnswer
     ensures { λ r. ⌜ left r (now (store .exit)) ≡ leftNumbers (clearCall (now (store .entry))) ⌝ }
 {
     answer_numbers(engine::clear(store))
+}
+
+// The poolside panels may show this revision.
+#[no_mangle]
+pub extern "C" fn sheets_release(
+    store: &mut [u8],
+    revision: u32,
+    seat: u32,
+    stamp: u32,
+) -> SheetsAnswer
+    ensures { λ r. ⌜ left r (now (store .exit)) ≡ leftNumbers (releaseCall (now (store .entry)) revision seat stamp) ⌝ }
+{
+    answer_numbers(engine::release(store, revision, seat, stamp))
 }
 
 // Commit, stopped after n block writes with the copy untouched; with n enough for all its writes it is `sheets_commit`.

@@ -10,7 +10,7 @@ use lib.Dec.{eqb}
 use lib.ListN.{List·getD-eq-default, drop, getD, length, length-drop, length-take, take}
 use lib.Seq.{drop-drop}
 use Rattle.block.specs.Lists.{all, same}
-use Rattle.model.specs.Blocks.{FitsBlock, blank, bytesAt, fieldsOf, fitsBlock, held, parse}
+use Rattle.model.specs.Blocks.{Block, FitsBlock, blank, bytesAt, fieldsOf, fitsBlock, held, parse}
 use Rattle.model.specs.Codec.{parts}
 use Rattle.model.specs.Store.{blocksOf}
 use Rattle.laws.proofs.BlockCodes.{block-coded}
@@ -56,6 +56,13 @@ module _ (f : List ℕ → Bool) (s : List ℕ) (n p : ℕ) (w : Bool) (inv : al
 pub length-blocks : (n : ℕ) (s : List ℕ) → length (blocksOf n s) ≡ n
 unfolding blocksOf
 length-blocks n s = length-parts fieldsOf parse fitsBlock FitsBlock block-coded n s
+
+-- the first of them
+pub blocks-taken : (k n : ℕ) (s : List ℕ) → k ≤ n → blocksOf k s ≡ take k (blocksOf n s)
+unfolding blocksOf
+blocks-taken zero n s h = refl
+blocks-taken (suc k) zero s h = absurd (omega arith)
+blocks-taken (suc k) (suc n) s h = ap (λ (bs : List Block). parse (take 512 s) ∷ bs) (blocks-taken k n (drop 512 s) (omega arith))
 
 part-at : (n p : ℕ) (l : List ℕ) → p < n → getD (map parse (parts n l)) p blank ≡ parse (take 512 (drop (p * 512) l))
 part-at zero p l h = absurd (omega arith)

@@ -2,18 +2,18 @@
 -- Assumes nothing.
 use Prim.Native.Nat.{_+_, _-_, _<_, suc, zero, ℕ}
 use mathlib.Core.Bool.{Bool, _&&_, cond, false, not, true}
-use mathlib.Core.List.{List, [], _++_, _∷_}
+use mathlib.Core.List.{List, [], _++_, _∷_, append-nil}
 use mathlib.Core.Path.{_∙_, _≡_, ap, ap₂, refl, subst, sym}
 use native.Mathlib.Omega.{arith}
 use borrow.Author.Tests.{eq-eqb}
 use lib.Dec.{T, eqb, eqb→eq, leb, lit≤}
 use lib.ListN.{drop, length, length-append, length-drop, replicate}
-use Rattle.block.proofs.Says.{and-true, bool-alike, true-and}
+use Rattle.block.proofs.Says.{and-true, bool-alike, is-true, true-and}
 use Rattle.block.specs.Lists.{all}
-use Rattle.model.specs.Blocks.{Block, blank, bytesAt, commit, content, label}
+use Rattle.model.specs.Blocks.{Block, blank, bytesAt, commit, content, label, mark}
 use Rattle.model.specs.History.{last}
 use Rattle.model.specs.Layout.{Table, latest, next}
-use Rattle.model.specs.Pass.{grown, isBlank, ok, okFrom, readAll, readFrom, tablesAfter}
+use Rattle.model.specs.Pass.{grown, isBlank, logAll, logFrom, ok, okFrom, readAll, readFrom, tablesAfter}
 use Rattle.model.specs.Store.{carries, front, stem}
 use Rattle.model.specs.declared.Refusal.the-variants.{StoreLayout}
 use Rattle.laws.proofs.Append.{run, unmoved, zero-below}
@@ -33,6 +33,7 @@ front-all [] (suc z) t = refl
 front-all (label ∷ s) z t = ap suc (front-all s z t)
 front-all (content r b ∷ s) z t = ap suc (front-all s z t)
 front-all (commit r a u ls ∷ s) z t = ap suc (front-all s z t)
+front-all (mark m ∷ s) z t = ap suc (front-all s z t)
 front-all (blank ∷ s) z t = absurd t
 
 all-front : (s : List Block) (z : ℕ) → length (front (s ++ replicate z blank)) ≡ length s → T (all (λ b. not (isBlank b)) s)
@@ -40,6 +41,7 @@ all-front [] z e = tt
 all-front (label ∷ s) z e = all-front s z (omega arith)
 all-front (content r b ∷ s) z e = all-front s z (omega arith)
 all-front (commit r a u ls ∷ s) z e = all-front s z (omega arith)
+all-front (mark m ∷ s) z e = all-front s z (omega arith)
 all-front (blank ∷ s) z e = absurd (omega arith)
 
 -- a table for each commit that is read
@@ -51,6 +53,7 @@ tables-read look tables (label ∷ s) z = omega arith
 tables-read look tables (content r b ∷ s) z = tables-read look tables s z
 tables-read look tables (commit r a u ls ∷ s) z =
     tables-read look (grown tables ls) s z ∙ omega (arith, length-append tables (next ls (latest tables) ∷ []))
+tables-read look tables (mark m ∷ s) z = tables-read look tables s z
 tables-read look tables (blank ∷ s) z = omega arith
 
 -- ---- the tests for refusal 3, where every block has its shape: W are the whole blocks, and z blank ones stand for the rest
@@ -64,6 +67,12 @@ judgedBy W B u m = ok B && (eqb (length (front B)) u && (all (carries (suc (last
 
 abbrev pub judged : ℕ → List Block → Bool
 judged z W = judgedBy W (bareBlocks z W) (length (stem W)) (length W)
+
+-- s, the first blocks of B before blank ones: laid by themselves, with the same commits and marks
+pub record Alone (s B : List Block) : Type 0 where
+  pub laid : ok s ≡ true
+  pub log : logAll s ≡ logAll B
+  pub used : length (front B) ≡ length s
 
 abbrev header : ℕ → ℕ → Header
 header x y = record { last = x; used = y }
@@ -147,6 +156,24 @@ module _ (z : ℕ) (R : List Block) where
       let r : 0 + length (readFrom here R) ≡ length (readFrom there (S ++ bl)) = omega (arith, ap length (read-stem here z R), count here, count there) in
       let u : reached 1 0 R ≡ suc (length (front (S ++ bl))) = reached-tail here 1 first R t ∙ omega (arith, front-all S z (q .0)) in
       ap₂ (λ (x y : ℕ). header x y) r u
+
+  -- the blocks before the tail by themselves
+  tested-alone : T tested → Alone (label ∷ S) (label ∷ (S ++ bl))
+  unfolding ok logAll okFrom logFrom
+  tested-alone t =
+      let p = and-true (ok (label ∷ (S ++ bl))) _ t in
+      let q = and-true (eqb (suc (length (front (S ++ bl)))) (suc (length S))) _ (p .1) in
+      let g : suc (length (front (S ++ bl))) ≡ suc (length S) = eqb→eq (suc (length (front (S ++ bl)))) (suc (length S)) (q .0) in
+      let r = run there (bytesAt (label ∷ (S ++ []))) (suc (length S)) (unmoved (label ∷ S) bl []) 1 0 first S bl [] (lit≤ tt) (omega arith) (zero-below 32, tt)
+      (all-front S z (omega (arith, g))) (all-blanks z) (p .0) tt in
+      record {
+        laid = is-true (ok (label ∷ S)) (subst (λ (x : List Block). T (ok (label ∷ x))) (append-nil S) (r .0));
+        log = sym (ap (λ (x : List Block). logAll (label ∷ x)) (append-nil S)) ∙ r .1 ∙ append-nil (logFrom there (S ++ bl));
+        used = g;
+      }
+
+  pub judged-alone : T (judged z (label ∷ R)) → Alone (stem (label ∷ R)) (bareBlocks z (label ∷ R))
+  judged-alone = subst (λ (s : List Block). T (judgedBy (label ∷ R) (s ++ bl) (length s) (suc (length R))) → Alone s (s ++ bl)) (sym (on-label S)) tested-alone
 
   answered : (b c : Bool) (x y : Header) → b ≡ c → (T b → x ≡ y) → _≡_ {A = Opened} (cond b (Open x) (Refused StoreLayout)) (cond c (Open y) (Refused StoreLayout))
   answered true c x y e f = ap (λ (h : Header). Open h) (f tt) ∙ ap (λ (t : Bool). cond t (Open y) (Refused StoreLayout)) e

@@ -5,14 +5,14 @@ use mathlib.Core.Bool.{Bool, _&&_, and-assoc, and-false, false, not, true}
 use mathlib.Core.List.{List, [], _++_, _∷_}
 use mathlib.Core.Path.{_∙_, _≡_, ap, refl, sym}
 use native.Mathlib.Omega.{arith}
-use lib.Dec.{T, eqb, leb}
+use lib.Dec.{T, eqb, eqb→eq, leb}
 use lib.ListN.{drop, length, replicate}
 use Rattle.block.proofs.Says.{and-true}
 use Rattle.block.specs.Lists.{all}
-use Rattle.model.specs.Blocks.{Block, blank, commit, content, label}
+use Rattle.model.specs.Blocks.{Block, blank, commit, content, label, mark}
 use Rattle.model.specs.History.{History}
 use Rattle.model.specs.Layout.{Table}
-use Rattle.model.specs.Pass.{grown, isBlank, laid, okFrom, readFrom, stated, tablesAfter}
+use Rattle.model.specs.Pass.{grown, isBlank, laid, okFrom, readFrom, stands, stated, tablesAfter}
 use Rattle.model.specs.Store.{carries, onStem, stem}
 use Rattle.store.specs.Opened.{okTail, reached}
 
@@ -37,6 +37,11 @@ pass-loose look at k tables (label ∷ bs) e = go (stem bs) e
 pass-loose look at k tables (commit r t u ls ∷ bs) e = absurd (go (stem bs) e)
   where
     go : (s : List Block) → onStem (commit r t u ls) s ≡ [] → ⊥
+    go [] w = let z : _≡_ {A = ℕ} 0 1 = cc in omega arith
+    go (c ∷ cs) w = let z : _≡_ {A = ℕ} 0 1 = cc in omega arith
+pass-loose look at k tables (mark m ∷ bs) e = absurd (go (stem bs) e)
+  where
+    go : (s : List Block) → onStem (mark m) s ≡ [] → ⊥
     go [] w = let z : _≡_ {A = ℕ} 0 1 = cc in omega arith
     go (c ∷ cs) w = let z : _≡_ {A = ℕ} 0 1 = cc in omega arith
 pass-loose look at k tables (blank ∷ bs) e = refl
@@ -96,6 +101,18 @@ pass-stem look at k tables z (commit r t u ls ∷ bs) h = go (stem bs) refl (λ 
     go (c ∷ cs) q ih =
         ap (λ (x : Bool). eqb r (length tables) && (laid look at k tables t ls && x)) (ih (omega arith))
         ∙ shift (eqb r (length tables)) (laid look at k tables t ls) (okFrom look (suc (at + k)) 0 (grown tables ls) (c ∷ (cs ++ replicate z blank))) (ends (grown tables ls) (c ∷ cs) bs)
+pass-stem look at k tables z (mark m ∷ bs) h = go (stem bs) refl (λ g. pass-stem look (suc at) 0 tables z bs g)
+  where
+    go : (s : List Block) → stem bs ≡ s
+        → (1 ≤ length s → okTail look (suc at) 0 tables bs ≡ (okFrom look (suc at) 0 tables (s ++ replicate z blank) && ends tables s bs))
+        → (eqb k 0 && (stands tables m && okTail look (suc at) 0 tables bs))
+        ≡ (okFrom look at k tables (onStem (mark m) s ++ replicate z blank) && ends tables (onStem (mark m) s) (mark m ∷ bs))
+    go [] q ih =
+        ap (λ (x : Bool). eqb k 0 && (stands tables m && x)) (pass-loose look (suc at) 0 tables bs q)
+        ∙ (rw (blank-ok look (suc at) tables z) (shift (eqb k 0) (stands tables m) true (loose tables 0 bs)))
+    go (c ∷ cs) q ih =
+        ap (λ (x : Bool). eqb k 0 && (stands tables m && x)) (ih (omega arith))
+        ∙ shift (eqb k 0) (stands tables m) (okFrom look (suc at) 0 tables (c ∷ (cs ++ replicate z blank))) (ends tables (c ∷ cs) bs)
 
 -- the same from a commit's first block on, where all may be loose
 pub pass-bare : (look : ℕ → List ℕ) (at : ℕ) (tables : List Table) (z : ℕ) (bs : List Block)
@@ -129,13 +146,18 @@ read-stem look z (commit r t u ls ∷ bs) = go (stem bs) (read-stem look z bs)
         → stated look t u ls ∷ readFrom look bs ≡ readFrom look (onStem (commit r t u ls) s ++ replicate z blank)
     go [] e = ap (λ (h : History). stated look t u ls ∷ h) e
     go (c ∷ cs) e = ap (λ (h : History). stated look t u ls ∷ h) e
+read-stem look z (mark m ∷ bs) = go (stem bs) (read-stem look z bs)
+  where
+    go : (s : List Block) → readFrom look bs ≡ readFrom look (s ++ replicate z blank) → readFrom look bs ≡ readFrom look (onStem (mark m) s ++ replicate z blank)
+    go [] e = e
+    go (c ∷ cs) e = e
 read-stem look z (blank ∷ bs) = go (stem bs)
   where
     go : (s : List Block) → [] ≡ readFrom look (onStem blank s ++ replicate z blank)
     go [] = refl
     go (c ∷ cs) = refl
 
--- the block after the last commit block is the first of the tail
+-- the block after the last commit block or mark is the first of the tail
 abbrev reachedBy : ℕ → ℕ → List Block → ℕ
 reachedBy at k [] = at
 reachedBy at k (c ∷ cs) = at + k + length (c ∷ cs)
@@ -157,6 +179,13 @@ reached-stem look at k tables (commit r t u ls ∷ bs) ok =
     go : (s : List Block) → reached (suc (at + k)) 0 bs ≡ reachedBy (suc (at + k)) 0 s → reached (suc (at + k)) 0 bs ≡ reachedBy at k (onStem (commit r t u ls) s)
     go [] e = e ∙ omega arith
     go (c ∷ cs) e = e ∙ omega arith
+reached-stem look at k tables (mark m ∷ bs) ok =
+    let p = and-true (eqb k 0) (stands tables m && okTail look (suc at) 0 tables bs) ok in
+    go (stem bs) (eqb→eq k 0 (p .0)) (reached-stem look (suc at) 0 tables bs (and-true (stands tables m) (okTail look (suc at) 0 tables bs) (p .1) .1))
+  where
+    go : (s : List Block) → k ≡ 0 → reached (suc at) 0 bs ≡ reachedBy (suc at) 0 s → reached (suc at) 0 bs ≡ reachedBy at k (onStem (mark m) s)
+    go [] z e = e ∙ omega arith
+    go (c ∷ cs) z e = e ∙ omega arith
 reached-stem look at k tables (blank ∷ bs) t = absurd t
 
 pub reached-tail : (look : ℕ → List ℕ) (at : ℕ) (tables : List Table) (bs : List Block) → T (okTail look at 0 tables bs) → reached at 0 bs ≡ at + length (stem bs)

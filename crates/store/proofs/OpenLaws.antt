@@ -8,25 +8,32 @@ use mathlib.Core.Path.{_∙_, _≡_, ap, ap₂, refl, subst, sym}
 use native.Mathlib.Omega.{arith}
 use borrow.Author.Tests.{eq-eqb, le-ltb, lt-ltb, ne-eqb}
 use lib.Dec.{T, eqb}
-use lib.ListN.{drop, length, length-replicate, replicate, take}
+use lib.ListN.{drop, getD, length, length-append, length-replicate, replicate, take}
+use lib.Seq.{take-at}
 use Rattle.block.proofs.Says.{is-true}
 use Rattle.block.specs.Lists.{all}
-use Rattle.model.specs.Blocks.{Block, blank, bytesAt, commit, content, fieldsOf, fitsBlock, label, parse}
+use Rattle.model.specs.Blocks.{Block, blank, bytesAt, commit, content, fieldsOf, fitsBlock, label, mark, parse}
 use Rattle.model.specs.Codec.{parts, shaped}
 use Rattle.model.specs.Layout.{Table}
-use Rattle.model.specs.Pass.{ok}
+use Rattle.model.specs.Log.{Log, marks, marksOk}
+use Rattle.model.specs.Pass.{logAll, ok}
 use Rattle.model.specs.Store.{bareIn, blocksOf, checked, checkedBut, countedBy, filledIn, front, historyOf, lawful, lawfulBut, onStem, stem, stemIn, wholeBy, wholeIn}
 use Rattle.model.specs.declared.Refusal.the-variants.{StoreCheck, StoreLayout, StoreLength}
-use Rattle.laws.proofs.Untailing.{bare-shaped, bare-stem, shapedIn}
+use Rattle.laws.proofs.Untailing.{bare-shaped, bare-stem, shapedIn, stem-split}
+use Rattle.marks.proofs.Turns.{markless}
+use Rattle.marks.specs.Laid.{Laid}
+use Rattle.marks.specs.Revisions.{isMark}
 use Rattle.shape.specs.Rows.{rowsOf}
 use Rattle.shape.specs.Shape.{kindOf}
-use Rattle.store.proofs.Blocks.{length-blocks, lent}
-use Rattle.store.proofs.Judged.{bareBlocks, headOf, judged, judged-passed, judgedBy}
+use Rattle.store.proofs.Blocks.{block-at, blocks-taken, length-blocks, lent, lent-is}
+use Rattle.store.proofs.Judged.{Alone, bareBlocks, headOf, judged, judged-alone, judged-passed, judgedBy}
 use Rattle.store.proofs.PassLaws.{parse-label, rest-step}
 use Rattle.store.specs.Known.{Fresh}
-use Rattle.store.specs.Opened.{openOf, openedBy, passed, passedAll}
+use Rattle.store.specs.Opened.{Markless, markedOf, openOf, openedAs, openedBy, passed, passedAll}
 use Rattle.store.specs.declared.Header.{Header}
 use Rattle.store.specs.declared.Opened.the-variants.{Open, Refused}
+use Rattle.store.specs.declared.Passed.{Passed}
+use Rattle.store.specs.declared.Passed.the-variants.{Plain}
 
 blanks-other : (z : ℕ) → ok (replicate z blank) ≡ false
 unfolding ok
@@ -45,6 +52,11 @@ stem-other (content r b) rest z n = go (stem rest)
 stem-other (commit r s t ls) rest z n = go (stem rest)
   where
     go : (x : List Block) → ok (onStem (commit r s t ls) x ++ replicate z blank) ≡ false
+    go [] = refl
+    go (c ∷ cs) = refl
+stem-other (mark m) rest z n = go (stem rest)
+  where
+    go : (s : List Block) → ok (onStem (mark m) s ++ replicate z blank) ≡ false
     go [] = refl
     go (c ∷ cs) = refl
 stem-other blank rest z n = go (stem rest)
@@ -75,6 +87,17 @@ unshaped n l s = rw s (none-of (lawful n (bareIn n l)) (eqb (length (front (bloc
     none-of true true = refl
     none-of true false = refl
     none-of false b = refl
+
+-- ---- the blocks before the tail are the first of the whole ones
+
+stem-short : (w : List Block) → length (stem w) ≤ length w
+stem-short w = omega (arith, ap length (stem-split w), length-append (stem w) (drop (length (stem w)) w))
+
+stem-taken : (m : ℕ) (l : List ℕ) → blocksOf (length (stem (blocksOf m l))) l ≡ stem (blocksOf m l)
+stem-taken m l =
+    let w = blocksOf m l in
+    blocks-taken (length (stem w)) m l (omega (arith, stem-short w, length-blocks m l)) ∙ ap (take (length (stem w))) (sym (stem-split w))
+    ∙ take-at (stem w) (drop (length (stem w)) w) (length (stem w)) refl
 
 -- ---- what the code counts
 
@@ -133,17 +156,32 @@ module _ (l : List ℕ) where
             S : T (shapedIn n l)
             S = subst T (sym s) tt
 
-            lawful-is : lawfulBut n l ≡ judged (n - stemIn n l) (blocksOf (wholeIn n l) l)
+            -- the whole blocks, and the same as if the tail were zero blocks
+            abbrev W : List Block
+            W = blocksOf (wholeIn n l) l
+
+            abbrev B : List Block
+            B = bareBlocks (n - stemIn n l) (blocksOf (wholeIn n l) l)
+
+            lawful-is : lawfulBut n l ≡ (judged (n - stemIn n l) W && marksOk (marks (logAll B)))
             unfolding lawfulBut lawful historyOf stemIn
             lawful-is =
                 let b : all (shaped fieldsOf parse fitsBlock) (parts n (bareIn n l)) ≡ true = is-true (all (shaped fieldsOf parse fitsBlock) (parts n (bareIn n l))) (bare-shaped n l size c S) in
                 let k : wholeIn n l ≡ length (blocksOf (wholeIn n l) l) = sym (length-blocks (wholeIn n l) l) in
-                rw (b, s) (λ i. judgedBy (blocksOf (wholeIn n l) l) (bare-stem n l size c S i) (stemIn n l) (k i))
+                rw (b, s) (swap (ok (blocksOf n (bareIn n l))) (marksOk (marks (logAll (blocksOf n (bareIn n l))))) _
+                ∙ (λ i. judgedBy W (bare-stem n l size c S i) (stemIn n l) (k i) && marksOk (marks (logAll (bare-stem n l size c S i)))))
+              where
+                swap : (x y z : Bool) → ((x && y) && z) ≡ ((x && z) && y)
+                swap true true true = refl
+                swap true true false = refl
+                swap true false true = refl
+                swap true false false = refl
+                swap false y z = refl
 
-            opened : openOf l ≡ cond (judged (n - stemIn n l) (blocksOf (wholeIn n l) l)) (Open (headOf (bareBlocks (n - stemIn n l) (blocksOf (wholeIn n l) l)))) (Refused StoreLayout)
+            opened : openOf l ≡ cond (judged (n - stemIn n l) W && marksOk (marks (logAll B))) (Open (headOf B)) (Refused StoreLayout)
             opened =
                 judge ∙ passes (lawfulBut n l) (headOf (blocksOf n (bareIn n l)))
-                ∙ ap₂ (λ (t : Bool) (B : List Block). cond t (Open (headOf B)) (Refused StoreLayout)) lawful-is (bare-stem n l size c S)
+                ∙ ap₂ (λ (t : Bool) (x : List Block). cond t (Open (headOf x)) (Refused StoreLayout)) lawful-is (bare-stem n l size c S)
 
             module _ (some-whole : 1 ≤ wholeIn (length l / 512) l) where
               first : blocksOf (wholeIn n l) l ≡ parse (lent l 0) ∷ drop 1 (blocksOf (wholeIn n l) l)
@@ -156,13 +194,44 @@ module _ (l : List ℕ) where
                   ap (λ (x : List Block). ok (bareBlocks (n - stemIn n l) x)) first ∙ stem-other (parse (lent l 0)) R (n - stemIn n l) k in
                   opened ∙ rw o
 
-              pub open-passed : kindOf (parse (lent l 0)) ≡ 1 → passedAll (wholeIn (length l / 512) l) l ≡ openOf l
-              unfolding passedAll
-              open-passed k =
-                  let R = drop 1 (blocksOf (wholeIn n l) l) in
-                  let q : blocksOf (wholeIn n l) l ≡ label ∷ R = first ∙ ap (λ (x : Block). x ∷ R) (parse-label (lent l 0) k) in
-                  ap (λ (x : List Block). passed (bytesAt x) 1 0 (replicate 32 0 ∷ []) R) q ∙ judged-passed (n - stemIn n l) R
-                  ∙ sym (opened ∙ ap (λ (x : List Block). cond (judged (n - stemIn n l) x) (Open (headOf (bareBlocks (n - stemIn n l) x))) (Refused StoreLayout)) q)
+              module _ (k : kindOf (parse (lent l 0)) ≡ 1) where
+                labelled : W ≡ label ∷ drop 1 W
+                labelled = first ∙ ap (λ (x : Block). x ∷ drop 1 W) (parse-label (lent l 0) k)
+
+                pass-judged : passedAll (wholeIn n l) l ≡ cond (judged (n - stemIn n l) W) (Open (headOf B)) (Refused StoreLayout)
+                unfolding passedAll
+                pass-judged =
+                    ap (λ (x : List Block). passed (bytesAt x) 1 0 (replicate 32 0 ∷ []) (drop 1 W)) labelled ∙ judged-passed (n - stemIn n l) (drop 1 W)
+                    ∙ sym (ap (λ (x : List Block). cond (judged (n - stemIn n l) x) (Open (headOf (bareBlocks (n - stemIn n l) x))) (Refused StoreLayout)) labelled)
+
+                module _ (j : judged (n - stemIn n l) W ≡ true) where
+                  alone : Alone (stem W) B
+                  alone =
+                      subst (λ (x : List Block). T (judged (n - stemIn n l) x) → Alone (stem x) (bareBlocks (n - stemIn n l) x)) (sym labelled)
+                      (judged-alone (n - stemIn n l) (drop 1 W)) (subst T (sym j) tt)
+
+                  -- the used blocks
+                  used-are : blocksOf (length (front B)) l ≡ stem W
+                  used-are = ap (λ (x : ℕ). blocksOf x l) (alone .used) ∙ stem-taken (wholeIn n l) l
+
+                -- what the test of all marks together asks
+                pub open-laid : wholeIn (length l / 512) l ≤ length l / 512 → (h : Header) → passedAll (wholeIn (length l / 512) l) l ≡ Open h → Laid l (h .used)
+                open-laid w h e = go (judged (n - stemIn n l) W) refl (sym pass-judged ∙ e)
+                  where
+                    go : (t : Bool) → judged (n - stemIn n l) W ≡ t → cond t (Open (headOf B)) (Refused StoreLayout) ≡ Open h → Laid l (h .used)
+                    go false j q = let z : _≡_ {A = ℕ} 0 1 = cc in absurd (omega arith)
+                    go true j q =
+                        let u : headOf B ≡ h = cc in
+                        let m : length (front B) ≤ wholeIn n l = omega (arith, alone j .used, stem-short W, length-blocks (wholeIn n l) l) in
+                        subst (λ (x : Header). Laid l (x .used)) u (record { room = omega (arith, m, w, size); few = omega (arith, m, w, high); laid = ap ok (used-are j) ∙ alone j .laid })
+
+                pub open-marked : markedOf l (passedAll (wholeIn (length l / 512) l) l) ≡ openOf l
+                open-marked = ap (markedOf l) pass-judged ∙ go (judged (n - stemIn n l) W) refl ∙ sym opened
+                  where
+                    go : (t : Bool) → judged (n - stemIn n l) W ≡ t
+                        → markedOf l (cond t (Open (headOf B)) (Refused StoreLayout)) ≡ cond (t && marksOk (marks (logAll B))) (Open (headOf B)) (Refused StoreLayout)
+                    go false j = refl
+                    go true j = ap (λ (g : Log). cond (marksOk (marks g)) (Open (headOf B)) (Refused StoreLayout)) (ap logAll (used-are j) ∙ alone j .log)
 
         -- no block but zero ones
         pub open-none : filledIn (length l / 512) l ≡ 0 → openOf l ≡ Refused StoreLayout
@@ -173,6 +242,28 @@ module _ (l : List ℕ) where
             let o : ok (bareBlocks (n - stemIn n l) (blocksOf (wholeIn n l) l)) ≡ false =
             ap (λ (k : ℕ). ok (bareBlocks (n - stemIn n l) (blocksOf k l))) w ∙ none-bare (n - stemIn n l) l in
             opened c s ∙ rw o
+
+-- the first block is the label
+first-plain : (bs : List Block) → ok bs ≡ true → isMark (getD bs 0 blank) ≡ false
+unfolding ok
+first-plain [] q = refl
+first-plain (label ∷ bs) q = refl
+first-plain (content r b ∷ bs) q = refl
+first-plain (commit r seat stamp ls ∷ bs) q = refl
+first-plain (mark x ∷ bs) q = let z : _≡_ {A = ℕ} 0 1 = cc in absurd (omega arith)
+first-plain (blank ∷ bs) q = refl
+
+-- where the pass met no mark, they go together
+pub open-plain : (l : List ℕ) {o : Passed} {h : Header} → o ≡ Plain h → ((x : Header) → openedAs o ≡ Open x → Laid l (x .used)) → Markless l o → Open h ≡ markedOf l (openedAs o)
+open-plain l {o} {h} e f m =
+    let L : Laid l (h .used) = f h (ap openedAs e) in
+    let M : Markless l (Plain h) = subst (Markless l) e m in
+    ap (λ (t : Bool). cond t (Open h) (Refused StoreLayout)) (markless l (h .used) L (λ p g. none-here p (omega (arith, length-blocks (h .used) l)) L M)) ∙ sym (ap (λ (x : Passed). markedOf l (openedAs x)) e)
+  where
+    -- the label, or a block that is no mark
+    none-here : (p : ℕ) → p < h .used → Laid l (h .used) → Markless l (Plain h) → isMark (getD (blocksOf (h .used) l) p blank) ≡ false
+    none-here zero g L M = first-plain (blocksOf (h .used) l) (L .laid)
+    none-here (suc p) g L M = ap isMark (block-at (h .used) (suc p) l g ∙ ap parse (lent-is l (suc p))) ∙ M (suc p) (omega arith) g
 
 -- the table
 

@@ -1,6 +1,6 @@
 // Whether a store's bytes are the layout of a history, with or without a tail: refusals 1 to 3, or the last revision and the used blocks. Nothing is written. The zero
-// blocks are passed over from the end; then one pass over the checks, one over the shapes and one forward over the commits, with a table of 32 block numbers for each
-// revision, so that a copy's source is one read.
+// blocks are passed over from the end; then one pass over the checks, one over the shapes and one forward over the commits and marks, with a table of 32 block numbers
+// for each revision, so that a copy's source is one read; and last the test of all marks together.
 use model::Refusal;
 ghost use Prim.Native.Nat.{_*_, _+_, _≤_, _<_};
 ghost use mathlib.Core.List.{[]};
@@ -10,12 +10,16 @@ ghost use Rattle.block.specs.Field.{twoAt};
 ghost use Rattle.block.specs.Lists.{all, same};
 ghost use Rattle.model.specs.Blocks.{bytesAt, fieldsOf, fitsBlock, parse, parseLine, parseLines};
 ghost use Rattle.model.specs.Codec.{parts, shaped};
-ghost use Rattle.model.specs.Pass.{laid, rule};
+ghost use Rattle.model.specs.Pass.{laid, rule, stands};
 ghost use Rattle.model.specs.Store.{blocksOf, checked, countedBy, filledIn, wholeBy};
+ghost use Rattle.marks.specs.Laid.{Laid};
 ghost use Rattle.shape.specs.Rows.{rowsOf};
-ghost use Rattle.store.specs.Known.{Fresh, Known};
-ghost use Rattle.store.specs.Opened.{openOf, passedAll};
+ghost use Rattle.shape.specs.Shape.{kindOf};
+ghost use Rattle.store.specs.Known.{Fresh, Known, markIn};
+ghost use Rattle.store.specs.Opened.{Markless, PassedAs, markedOf, openOf, openedAs};
 ghost use Rattle.store.specs.Rule.{bare, copyRule, ownOf, plainRule};
+ghost use Rattle.store.specs.declared.Header.{Header};
+ghost use Rattle.store.specs.declared.Opened.the-variants.{Open};
 
 // The last revision, and U, the used blocks.
 pub struct Header {
@@ -26,6 +30,13 @@ pub struct Header {
 pub enum Opened {
     Refused(Refusal),
     Open(Header),
+}
+
+// What the forward pass answers, and whether it met a mark.
+pub enum Passed {
+    Refused(Refusal),
+    Plain(Header),
+    Marked(Header),
 }
 
 // Where the forward pass stands, over n blocks: the last revision so far, and the next commit's k content blocks from block `at` on.
@@ -247,15 +258,34 @@ fn laid_at<'a>(store: &'a [u8], b: &'a [u8], tab: &'a [u16], w: Spot) -> bool
     shape::one_each(b, 16, m, w.at, w.k)
 }
 
+// Whether the mark in block b may stand where these trees are known: a release names a revision from 1 to the last, and seats are 1 to 4.
+fn mark_stands<'a>(b: &'a [u8], tab: &'a [u16], w: Spot) -> bool
+    requires { ⌜ (length (now b) ≡ 512) × (kindOf (parse (now b)) ≡ 4) ⌝ }
+    ensures { λ x. ⌜ x ≡ stands (rowsOf (w .last + 1) (now (tab .entry))) (markIn (parse (now (b .entry)))) ⌝ }
+{
+    let r = shape::two_at(b, 4) as usize;
+    if r < 1 {
+        return false;
+    }
+    if w.last < r {
+        return false;
+    }
+    if b[6] < 1 {
+        return false;
+    }
+    b[6] <= 4
+}
+
 // The forward pass over the blocks after the label. Row v of the table gets the block that each sheet of tree v uses. The content blocks that are left at the end are the
-// tail's.
-fn pass(store: &[u8], n: usize, tab: &mut [u16]) -> Opened
+// tail's. A mark states a revision that is there, any other block the next one.
+fn pass(store: &[u8], n: usize, tab: &mut [u16]) -> Passed
     requires { ⌜ Fresh (now store) n (now tab) ⌝ }
-    ensures { λ x. ⌜ x ≡ passedAll n (now (store .entry)) ⌝ }
+    ensures { λ x. ⌜ PassedAs n (now (store .entry)) x ⌝ }
 {
     let mut at: usize = 1;
     let mut k: usize = 0;
     let mut last: usize = 0;
+    let mut met = false;
     while at + k < n {
         let w = Spot { n, last, at, k };
         let pos = at + k;
@@ -264,17 +294,31 @@ fn pass(store: &[u8], n: usize, tab: &mut [u16]) -> Opened
         let b = &store[a..e];
         let kind = shape::kind(b);
         if kind < 2 {
-            return Opened::Refused(Refusal::StoreLayout);
+            return Passed::Refused(Refusal::StoreLayout);
         }
         if shape::two_at(b, 4) as usize != last + 1 {
-            return Opened::Refused(Refusal::StoreLayout);
+            if kind != 4 {
+                return Passed::Refused(Refusal::StoreLayout);
+            }
+            if k != 0 {
+                return Passed::Refused(Refusal::StoreLayout);
+            }
+            if !mark_stands(b, tab, w) {
+                return Passed::Refused(Refusal::StoreLayout);
+            }
+            at = pos + 1;
+            met = true;
+            continue;
         }
         if kind == 2 {
             k += 1;
             continue;
         }
+        if kind == 4 {
+            return Passed::Refused(Refusal::StoreLayout);
+        }
         if !laid_at(store, b, tab, w) {
-            return Opened::Refused(Refusal::StoreLayout);
+            return Passed::Refused(Refusal::StoreLayout);
         }
         let m = shape::two_at(b, 2) as usize;
         last += 1;
@@ -283,27 +327,59 @@ fn pass(store: &[u8], n: usize, tab: &mut [u16]) -> Opened
         k = 0;
     }
     if 32 < k {
-        return Opened::Refused(Refusal::StoreLayout);
+        return Passed::Refused(Refusal::StoreLayout);
     }
-    Opened::Open(Header { last, used: at })
+    let h = Header { last, used: at };
+    if met {
+        return Passed::Marked(h);
+    }
+    Passed::Plain(h)
 }
 
 // The pass over at most 64 blocks.
-fn pass_small(store: &[u8], n: usize) -> Opened
+fn pass_small(store: &[u8], n: usize) -> Passed
     requires { ⌜ (n * 512 ≤ length (now store)) × (1 ≤ n) × (n ≤ 64) ⌝ }
-    ensures { λ x. ⌜ x ≡ passedAll n (now (store .entry)) ⌝ }
+    ensures { λ x. ⌜ PassedAs n (now (store .entry)) x ⌝ }
 {
     let mut tab: [u16; 2048] = [0; 2048];
     pass(store, n, &mut tab)
 }
 
 // The pass over at most 4,096 blocks.
-fn pass_large(store: &[u8], n: usize) -> Opened
+fn pass_large(store: &[u8], n: usize) -> Passed
     requires { ⌜ (n * 512 ≤ length (now store)) × (1 ≤ n) × (n ≤ 4096) ⌝ }
-    ensures { λ x. ⌜ x ≡ passedAll n (now (store .entry)) ⌝ }
+    ensures { λ x. ⌜ PassedAs n (now (store .entry)) x ⌝ }
 {
     let mut tab: [u16; 131072] = [0; 131072];
     pass(store, n, &mut tab)
+}
+
+// The pass, with the smaller table where it is enough.
+fn pass_sized(store: &[u8], n: usize) -> Passed
+    requires { ⌜ (n * 512 ≤ length (now store)) × (1 ≤ n) × (n ≤ 4096) ⌝ }
+    ensures { λ x. ⌜ PassedAs n (now (store .entry)) x ⌝ }
+{
+    if n <= 64 {
+        return pass_small(store, n);
+    }
+    pass_large(store, n)
+}
+
+// The pass's answer, or the refusal of marks that do not go together.
+fn marked(store: &[u8], o: Passed) -> Opened
+    requires { ⌜ ((h : Header) → openedAs o ≡ Open h → Laid (now store) (h .used)) × Markless (now store) o ⌝ }
+    ensures { λ x. ⌜ x ≡ markedOf (now (store .entry)) (openedAs o) ⌝ }
+{
+    match o {
+        Passed::Refused(k) => Opened::Refused(k),
+        Passed::Plain(h) => Opened::Open(h),
+        Passed::Marked(h) => {
+            if !marks::together(store, h.used) {
+                return Opened::Refused(Refusal::StoreLayout);
+            }
+            Opened::Open(h)
+        }
+    }
 }
 
 // How many blocks there are up to the last that is not all zero.
@@ -375,8 +451,5 @@ pub fn open(store: &[u8]) -> Opened
     if shape::kind(&store[0..512]) != 1 {
         return Opened::Refused(Refusal::StoreLayout);
     }
-    if m <= 64 {
-        return pass_small(store, m);
-    }
-    pass_large(store, m)
+    marked(store, pass_sized(store, m))
 }

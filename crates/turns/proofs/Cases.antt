@@ -43,7 +43,7 @@ three-reached = refl
 -- ---- a commit through the record: 7 comes before 15, 15 before 10
 
 abbrev seatTwo : Side
-seatTwo = record { seat = 2; blocks = 4; used = 1; tail = 0; history = []; entries = [] }
+seatTwo = record { seat = 2; blocks = 4; used = 1; tail = 0; history = []; marks = []; entries = [] }
 
 mask-first : firstOf (inTurnLines (1 ∷ 0 ∷ 0 ∷ 0 ∷ []) seatTwo 0 0) ≡ some 7
 unfolding inForm queueOf

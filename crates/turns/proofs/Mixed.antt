@@ -10,17 +10,17 @@ use lib.Dec.{eqb}
 use lib.ListN.{set, take}
 use lib.Seq.{set-getD}
 use Rattle.model.specs.Calls.{Buffers, Out, afterTurn, changeBy, changeCall, copyConditions, freshBuffers, refusalOf, runOn, sideIn, storeConditions}
-use Rattle.model.specs.Demand3.{Finds, WholeList, copyIn}
+use Rattle.model.specs.Demand3.{Finds, PanelFinds, WholeList, copyIn}
 use Rattle.model.specs.Invariant.{Kept}
 use Rattle.model.specs.Machine.{Answer, Commits, Side, State, fresh, refused, sideOf}
 use Rattle.model.specs.Refusals.{firstOf, tailConditions}
-use Rattle.model.specs.Run.{AllValid, Turn, accepted, ownConditions, run, step, stepBy}
+use Rattle.model.specs.Run.{AllValid, Turn, accepted, acceptedMarks, ownConditions, run, step, stepBy}
 use Rattle.model.specs.Shows.{Shows}
 use Rattle.laws.proofs.Conditions.{clear, clear-first, clear-mid, none-holds}
 use Rattle.laws.proofs.Demand3.{demand-three}
 use Rattle.laws.proofs.Fresh.{fresh-shows}
 use Rattle.laws.proofs.Invariant.{kept-fresh, kept-side, kept-step}
-use Rattle.laws.proofs.Lasting.{found}
+use Rattle.laws.proofs.Lasting.{found, found-marks}
 use Rattle.laws.proofs.Steps.{copy-clear, one-step, same-refusal, same-side, seen-seat, store-clear}
 use Rattle.turns.proofs.InTurn.{own-by-another, own-by-holder}
 use Rattle.turns.specs.InTurn.{inTurnCall, inTurnConditions, inTurnLines, ownInTurn}
@@ -200,11 +200,18 @@ demand-three-in-turn N ms lo hi v =
       beside = turn-follows (freshBuffers N) free ms ∙ sym (turn-beside (fresh N) free ms);
       turn = turn-follows (freshBuffers N) free ms;
       same = same;
-      whole = subst (λ (b : Buffers). WholeList N (through free ms) b (accepted (fresh N) (through free ms))) (sym same) whole;
+      whole = subst (λ (b : Buffers). WholeList N (through free ms) b (accepted (fresh N) (through free ms)) (acceptedMarks (fresh N) (through free ms))) (sym same) whole;
       shows = λ n. moves-agree N (freshBuffers N) (fresh N) free (take n ms) W K (valid-take n ms v) .1;
       history = ap (λ (s : State). s .history) (machine-follows (fresh N) free ms) ∙ found N (through free ms);
+      marks = ap (λ (s : State). s .marks) (machine-follows (fresh N) free ms) ∙ found-marks N (through free ms);
       lasting = λ us w R i le small.
           let e = buffers-follow N (freshBuffers N) (fresh N) free (ms ++ us) W K (valid-append ms us v w) ∙ ap (runOn (freshBuffers N)) (through-append free ms us) in
           subst (λ (b : Buffers). Finds b (accepted (fresh N) (through free ms)) R i) (sym e)
           (whole .lasting (through (turnAfter free (turnsIn ms)) us) (valid-through (turnAfter free (turnsIn ms)) us w) R i le small);
+      lasting-panel = λ us w R i le small.
+          let h = accepted (fresh N) (through free ms) in
+          let e = buffers-follow N (freshBuffers N) (fresh N) free (ms ++ us) W K (valid-append ms us v w) in
+          subst (λ (b : Buffers). PanelFinds b h (acceptedMarks (fresh N) (through free (ms ++ us))) R i) (sym e)
+          (subst (λ (ts : List Turn). PanelFinds (runOn (freshBuffers N) ts) h (acceptedMarks (fresh N) ts) R i) (sym (through-append free ms us))
+          (whole .lasting-panel (through (turnAfter free (turnsIn ms)) us) (valid-through (turnAfter free (turnsIn ms)) us w) R i le small));
     }

@@ -7,11 +7,12 @@ use mathlib.Core.Path.{_≡_}
 use lib.Dec.{eqb}
 use lib.ListN.{getD, length, set, take}
 use Rattle.model.specs.Calls.{Buffers, Out, afterTurn, freshBuffers, runOn, turnOn}
-use Rattle.model.specs.Demand3.{Finds, WholeList}
+use Rattle.model.specs.Demand3.{Finds, PanelFinds, WholeList}
 use Rattle.model.specs.History.{History}
+use Rattle.model.specs.Log.{Placed}
 use Rattle.model.specs.Machine.{Answer, Commits, State, fresh, sideOf}
 use Rattle.model.specs.Refusals.{firstOf}
-use Rattle.model.specs.Run.{Turn, Valid, accepted, step, stepBy}
+use Rattle.model.specs.Run.{Turn, Valid, accepted, acceptedMarks, step, stepBy}
 use Rattle.model.specs.Shows.{Shows}
 use Rattle.turns.specs.InTurn.{inTurnCall, ownInTurn}
 use Rattle.turns.specs.Turns.{TurnAnswer, TurnCall, free, holder, inForm, queueOf, turnAfter, turnCall}
@@ -105,8 +106,8 @@ abbrev pub ValidMoves : List Move → Type 0
 ValidMoves [] = Unit {0}
 ValidMoves (m ∷ ms) = ValidMove m × ValidMoves ms
 
--- of N blocks and the list ms, where b is what the calls leave and h the commits that were accepted among those that got through
-pub record MixedList (N : ℕ) (ms : List Move) (b : Bench) (h : History) : Type 0 where
+-- of N blocks and the list ms, where b is what the calls leave, h the commits that were accepted among those that got through and ps the releases
+pub record MixedList (N : ℕ) (ms : List Move) (b : Bench) (h : History) (ps : List Placed) : Type 0 where
   -- every answer is the machine's
   pub answer : saidOn (bench (freshBuffers N) free) ms ≡ saidBy (table (fresh N) free) ms
   -- the record is the one beside the machine ..
@@ -115,15 +116,20 @@ pub record MixedList (N : ℕ) (ms : List Move) (b : Bench) (h : History) : Type
   pub turn : b .turn ≡ turnAfter free (turnsIn ms)
   -- store and copies are those that the ordinary calls leave which it comes to ..
   pub same : b .buffers ≡ runOn (freshBuffers N) (through free ms)
-  -- .. and of these demand 3 says all that it says: history, entries, what is found at each revision, what an update brings
-  pub whole : WholeList N (through free ms) (b .buffers) h
+  -- .. and of these demand 3 says all that it says: history, entries, what is found at each revision, by a panel too, what an update brings
+  pub whole : WholeList N (through free ms) (b .buffers) h ps
   -- after each call the buffers show the machine's state
   pub shows : (n : ℕ) → Shows N (movedOn (bench (freshBuffers N) free) (take n ms) .buffers) (moved (table (fresh N) free) (take n ms) .machine)
   -- "The history follows from the commits that got through."
   pub history : moved (table (fresh N) free) ms .machine .history ≡ h
+  -- beside it, the releases that were made
+  pub marks : moved (table (fresh N) free) ms .machine .marks ≡ ps
   -- and what is found at R stays so after every longer list of calls of every kind
   pub lasting : (us : List Move) → ValidMoves us → (R i : ℕ) → R ≤ length h → i ≤ 31 → Finds (movedOn (bench (freshBuffers N) free) (ms ++ us) .buffers) h R i
+  -- for a panel as well, with the releases until then
+  pub lasting-panel : (us : List Move) → ValidMoves us → (R i : ℕ) → R ≤ length h → i ≤ 31
+      → PanelFinds (movedOn (bench (freshBuffers N) free) (ms ++ us) .buffers) h (acceptedMarks (fresh N) (through free (ms ++ us))) R i
 
 abbrev pub Demand3InTurn : Type 0
 Demand3InTurn = (N : ℕ) (ms : List Move) → 2 ≤ N → N ≤ 4_096 → ValidMoves ms
-    → MixedList N ms (movedOn (bench (freshBuffers N) free) ms) (accepted (fresh N) (through free ms))
+    → MixedList N ms (movedOn (bench (freshBuffers N) free) ms) (accepted (fresh N) (through free ms)) (acceptedMarks (fresh N) (through free ms))

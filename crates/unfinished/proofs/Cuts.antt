@@ -14,7 +14,7 @@ use Rattle.model.specs.Entry.{added, empty}
 use Rattle.model.specs.History.{Bytes, tree}
 use Rattle.model.specs.Layout.{means, next}
 use Rattle.model.specs.Machine.{done, revision, stopped}
-use Rattle.model.specs.Pass.{laid, noChanges, ok, okFrom, readAll, readFrom, rule, stated, tablesAfter, tablesOf}
+use Rattle.model.specs.Pass.{laid, logAll, logFrom, noChanges, ok, okFrom, readAll, readFrom, rule, stated, tablesAfter, tablesOf}
 use Rattle.model.specs.Store.{bareIn, blankFrom, blocksOf, checked, checkedBut, filledIn, historyOf, lawful, lawfulBut, stemIn, wholeIn}
 use Rattle.model.specs.WorkCopy.{copyBlocksOf, copyBytes, copyOk, entriesOf, parseCopyBlock, seatOf}
 
@@ -32,15 +32,15 @@ abbrev leaves : ℕ → Bytes
 leaves n = commitCutCall (freshStore 3) copy 7 everything n .store
 
 pub after-none : leaves 0 ≡ freshStore 3
-unfolding tree bytesAt next means ok okFrom readAll readFrom stated noChanges rule laid padded checksOf encode sealed shaped parse checked lawful blocksOf historyOf tablesOf tablesAfter parseCopyBlock copyBytes copyBlocksOf copyOk seatOf entriesOf refusalOf storeRefusal changeCall commitCutCall written checkedBut lawfulBut filledIn wholeIn stemIn blankFrom bareIn
+unfolding tree bytesAt next means ok okFrom readAll readFrom logAll logFrom stated noChanges rule laid padded checksOf encode sealed shaped parse checked lawful blocksOf historyOf tablesOf tablesAfter parseCopyBlock copyBytes copyBlocksOf copyOk seatOf entriesOf refusalOf storeRefusal changeCall commitCutCall written checkedBut lawfulBut filledIn wholeIn stemIn blankFrom bareIn
 after-none = refl
 
 pub after-one : leaves 1 ≡ joined fieldsOf (label ∷ one ∷ blank ∷ [])
-unfolding tree bytesAt next means ok okFrom readAll readFrom stated noChanges rule laid padded checksOf encode sealed shaped parse checked lawful blocksOf historyOf tablesOf tablesAfter parseCopyBlock copyBytes copyBlocksOf copyOk seatOf entriesOf refusalOf storeRefusal changeCall commitCutCall written checkedBut lawfulBut filledIn wholeIn stemIn blankFrom bareIn
+unfolding tree bytesAt next means ok okFrom readAll readFrom logAll logFrom stated noChanges rule laid padded checksOf encode sealed shaped parse checked lawful blocksOf historyOf tablesOf tablesAfter parseCopyBlock copyBytes copyBlocksOf copyOk seatOf entriesOf refusalOf storeRefusal changeCall commitCutCall written checkedBut lawfulBut filledIn wholeIn stemIn blankFrom bareIn
 after-one = refl
 
 pub after-two : leaves 2 ≡ joined fieldsOf (label ∷ one ∷ two ∷ [])
-unfolding tree bytesAt next means ok okFrom readAll readFrom stated noChanges rule laid padded checksOf encode sealed shaped parse checked lawful blocksOf historyOf tablesOf tablesAfter parseCopyBlock copyBytes copyBlocksOf copyOk seatOf entriesOf refusalOf storeRefusal changeCall commitCutCall written checkedBut lawfulBut filledIn wholeIn stemIn blankFrom bareIn
+unfolding tree bytesAt next means ok okFrom readAll readFrom logAll logFrom stated noChanges rule laid padded checksOf encode sealed shaped parse checked lawful blocksOf historyOf tablesOf tablesAfter parseCopyBlock copyBytes copyBlocksOf copyOk seatOf entriesOf refusalOf storeRefusal changeCall commitCutCall written checkedBut lawfulBut filledIn wholeIn stemIn blankFrom bareIn
 after-two = refl
 
 -- clearing content and junk, stopped after one write: the highest block goes first
@@ -51,9 +51,9 @@ abbrev behind : Bytes
 behind = joined fieldsOf (label ∷ one ∷ []) ++ junk
 
 pub clear-one : clearCutCall behind 1 ≡ record { says = stopped; buffer = joined fieldsOf (label ∷ one ∷ blank ∷ []) }
-unfolding tree bytesAt next means ok okFrom readAll readFrom stated noChanges rule laid padded checksOf encode sealed shaped parse checked lawful blocksOf historyOf tablesOf tablesAfter storeRefusal clearCutCall checkedBut lawfulBut filledIn wholeIn stemIn blankFrom bareIn
+unfolding tree bytesAt next means ok okFrom readAll readFrom logAll logFrom stated noChanges rule laid padded checksOf encode sealed shaped parse checked lawful blocksOf historyOf tablesOf tablesAfter storeRefusal clearCutCall checkedBut lawfulBut filledIn wholeIn stemIn blankFrom bareIn
 clear-one = refl
 
 pub clear-two : clearCutCall behind 2 ≡ record { says = done; buffer = freshStore 3 }
-unfolding tree bytesAt next means ok okFrom readAll readFrom stated noChanges rule laid padded checksOf encode sealed shaped parse checked lawful blocksOf historyOf tablesOf tablesAfter storeRefusal clearCutCall checkedBut lawfulBut filledIn wholeIn stemIn blankFrom bareIn
+unfolding tree bytesAt next means ok okFrom readAll readFrom logAll logFrom stated noChanges rule laid padded checksOf encode sealed shaped parse checked lawful blocksOf historyOf tablesOf tablesAfter storeRefusal clearCutCall checkedBut lawfulBut filledIn wholeIn stemIn blankFrom bareIn
 clear-two = refl

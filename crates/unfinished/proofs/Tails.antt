@@ -14,23 +14,23 @@ use Rattle.model.specs.Codec.{encode, joined, padded, shaped}
 use Rattle.model.specs.History.{Bytes, last, tree}
 use Rattle.model.specs.Layout.{means, next}
 use Rattle.model.specs.Machine.{bytes, done, refused}
-use Rattle.model.specs.Pass.{laid, noChanges, ok, okFrom, readAll, readFrom, rule, stated, tablesAfter, tablesOf}
+use Rattle.model.specs.Pass.{laid, logAll, logFrom, noChanges, ok, okFrom, readAll, readFrom, rule, stated, tablesAfter, tablesOf}
 use Rattle.model.specs.Refusals.{firstOf}
 use Rattle.model.specs.Store.{bareIn, blankFrom, blocksOf, checked, checkedBut, filledIn, historyOf, lawful, lawfulBut, stemIn, storeHistory, tailOf, usedOf, wholeIn}
 use Rattle.model.specs.WorkCopy.{copyBlocksOf, copyBytes, copyOk, entriesOf, parseCopyBlock, seatOf}
 
 -- document 01's case input in a store: sheet 5 added with byte 65 by seat 2
-abbrev used : List Block
+abbrev pub used : List Block
 used = label ∷ content 1 (65 ∷ []) ∷ commit 1 2 7 (record { sheet = 5; action = adds; block = 1; source = 0; revision = 0 } ∷ []) ∷ []
 
 -- 512 bytes with a wrong check: the commit block of the case input, but for its seat
 abbrev junk : Bytes
 junk = set (encode fieldsOf (commit 1 2 7 (record { sheet = 5; action = adds; block = 1; source = 0; revision = 0 } ∷ []))) 6 3
 
-abbrev zeros : ℕ → Bytes
+abbrev pub zeros : ℕ → Bytes
 zeros n = joined fieldsOf (replicate n blank)
 
-abbrev laidOut : List Block → Bytes
+abbrev pub laidOut : List Block → Bytes
 laidOut bs = joined fieldsOf bs
 
 -- the next revision's content
@@ -91,7 +91,7 @@ pub record Acceptance : Type 0 where
   pub numbers : refusedBy ≡ some 2 ∷ some 2 ∷ some 2 ∷ some 2 ∷ some 3 ∷ some 3 ∷ some 3 ∷ some 3 ∷ some 3 ∷ some 3 ∷ []
 
 pub acceptance : Acceptance
-unfolding bytesAt next means ok okFrom readAll readFrom stated noChanges rule laid padded checksOf encode sealed shaped parse checked lawful blocksOf historyOf checkedBut lawfulBut filledIn wholeIn stemIn blankFrom bareIn
+unfolding bytesAt next means ok okFrom readAll readFrom logAll logFrom stated noChanges rule laid padded checksOf encode sealed shaped parse checked lawful blocksOf historyOf checkedBut lawfulBut filledIn wholeIn stemIn blankFrom bareIn
 acceptance = record { taken = refl; numbers = refl }
 
 pub record Size : Type 0 where
@@ -99,7 +99,7 @@ pub record Size : Type 0 where
   pub past : firstOf (storeConditions (laidOut (many 33))) ≡ some 3
 
 pub size : Size
-unfolding bytesAt next means ok okFrom readAll readFrom stated noChanges rule laid padded checksOf encode sealed shaped parse checked lawful blocksOf historyOf checkedBut lawfulBut filledIn wholeIn stemIn blankFrom bareIn
+unfolding bytesAt next means ok okFrom readAll readFrom logAll logFrom stated noChanges rule laid padded checksOf encode sealed shaped parse checked lawful blocksOf historyOf checkedBut lawfulBut filledIn wholeIn stemIn blankFrom bareIn
 size = record { most = refl; past = refl }
 
 pub record OnTail : Type 0 where
@@ -112,5 +112,5 @@ pub record OnTail : Type 0 where
   pub unchanged : clearCall (laidOut used ++ zeros 3) ≡ record { says = done; buffer = laidOut used ++ zeros 3 }
 
 pub on-tail : OnTail
-unfolding tree bytesAt next means ok okFrom readAll readFrom stated noChanges rule laid padded checksOf encode sealed shaped parse checked lawful blocksOf historyOf tablesOf tablesAfter parseCopyBlock copyBytes copyBlocksOf copyOk seatOf entriesOf refusalOf storeRefusal changeCall readPlace clearCall checkedBut lawfulBut filledIn wholeIn stemIn blankFrom bareIn
+unfolding tree bytesAt next means ok okFrom readAll readFrom logAll logFrom stated noChanges rule laid padded checksOf encode sealed shaped parse checked lawful blocksOf historyOf tablesOf tablesAfter parseCopyBlock copyBytes copyBlocksOf copyOk seatOf entriesOf refusalOf storeRefusal changeCall readPlace clearCall checkedBut lawfulBut filledIn wholeIn stemIn blankFrom bareIn
 on-tail = record { commits = refl; reads = refl; cleared = refl; unchanged = refl }

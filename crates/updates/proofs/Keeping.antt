@@ -16,7 +16,6 @@ use Rattle.model.specs.WorkCopy.{FitsCopyBlock, HoldsCopy, copyBytes, entriesOf
 use Rattle.laws.proofs.Accepted.{accepted-kept, accepted-seen}
 use Rattle.laws.proofs.Invariant.{KeptSide, kept-entry}
 use Rattle.laws.proofs.Steps.{fits-all, fits-piece, laid-copy}
-use Rattle.laws.proofs.Trees.{used-low}
 use Rattle.laws.proofs.WorkCopy.{holds-copy}
 use Rattle.entries.proofs.Checking.{fitting-accepted}
 use Rattle.entries.specs.View.{Fitting}
@@ -41,7 +40,7 @@ module _ (store copy : Bytes) (v : View) (F : Fitting store copy v) where
   seats = held copy (F .viewed .accepted) .1
 
   pub fits-limits : (k : ℕ) (e : Entry) → FitsAt h k e → FitsCopyBlock (entryBlock e)
-  fits-limits k e f = fits-piece h k e (omega (arith, used-low h, kept .used, kept .room, few)) f
+  fits-limits k e f = fits-piece h k e (omega (arith, kept .used, kept .room, few)) f
 
   -- with other entries, which fit
   fitting-of : (es : List Entry) → KeptSide (withEntries d es) → Fitting store (copyBytes (seatOf copy) es) v

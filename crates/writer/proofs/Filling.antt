@@ -11,8 +11,9 @@ use Rattle.block.proofs.Sealing.{seal-is}
 use Rattle.block.proofs.Writing.{written-both, written-mid}
 use Rattle.block.specs.Check.{checksOf, sealOf}
 use Rattle.block.specs.Write.{written}
-use Rattle.model.specs.Blocks.{Block, Line, commit, content, fieldsOf, linesOf}
+use Rattle.model.specs.Blocks.{Block, Line, commit, content, fieldsOf, linesOf, mark}
 use Rattle.model.specs.Codec.{encode, padTo, padded}
+use Rattle.model.specs.Log.{released}
 use Rattle.laws.proofs.BlockCodes.{length-lines}
 use Rattle.laws.proofs.Codec.{length-encode, length-padded}
 use Rattle.writer.specs.Blocks.{headOf}
@@ -70,6 +71,16 @@ unfolding encode headOf
 commit-filled r seat stamp m ls d d₁ d₂ d₃ d₄ ld lm hm e₁ e₂ e₃ e₄ =
     block-filled (fieldsOf (commit r seat stamp ls)) (headOf 3 m r seat stamp) (linesOf ls) d d₁ d₂ d₃ d₄ (16 + 8 * m) ld
     (ap (λ (k : ℕ). headOf 3 k r seat stamp ++ linesOf ls) lm) refl (omega (arith, length-lines ls)) (omega arith) e₁ e₂ e₃ e₄
+
+-- the four zeros that its head has more are those of the padding
+pub release-filled : (r seat stamp : ℕ) (d d₁ d₂ d₃ : List ℕ) → length d ≡ 512
+    → d₁ ≡ written 0 (headOf 6 0 r seat stamp) d → d₂ ≡ written 16 (replicate (508 - 16) 0) d₁ → d₃ ≡ sealOf d₂
+    → d₃ ≡ encode fieldsOf (mark (released r seat stamp))
+unfolding encode headOf padded written
+release-filled r seat stamp d d₁ d₂ d₃ ld e₁ e₂ e₃ =
+    let head = headOf 6 0 r seat stamp in
+    let same : padded head ≡ padded (fieldsOf (mark (released r seat stamp))) = refl in
+    block-filled head head [] d d₁ d₁ d₂ d₃ 16 ld refl refl refl (omega arith) e₁ refl e₂ e₃ ∙ ap (λ (x : List ℕ). x ++ checksOf x) same
 
 -- a part that was lent and comes back is a run of stores
 part-written : (a k : ℕ) (s y : List ℕ) → k ≡ length y → a + length y ≤ length s → putMid a k s y ≡ written a y s

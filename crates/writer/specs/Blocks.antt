@@ -13,7 +13,7 @@ use Rattle.model.specs.Codec.{joined}
 use Rattle.model.specs.WorkCopy.{bodyAt}
 use Rattle.writer.specs.declared.Line.{Line as TheLine}
 
--- the first 16 bytes of a content block and of a commit block
+-- the first 16 bytes of a content block, of a commit block and of a release block
 unfoldable pub headOf : ℕ → ℕ → ℕ → ℕ → ℕ → List ℕ
 headOf kind n r seat stamp = kind ∷ 0 ∷ two n (two r (seat ∷ 0 ∷ four stamp (0 ∷ 0 ∷ 0 ∷ 0 ∷ [])))
 

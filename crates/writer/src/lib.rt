@@ -1,10 +1,11 @@
-// The writing of a commit: one function for each block that is written, and the order in which they are.
+// The writing of a commit and of a release: one function for each block that is written, and the order in which those of a commit are.
 ghost use Prim.Native.Nat.{_*_, _+_, _<_, _≤_};
 ghost use mathlib.Core.Path.{_≡_};
 ghost use lib.ListN.{length, take};
 ghost use Rattle.block.specs.Write.{written};
-ghost use Rattle.model.specs.Blocks.{commit, content, fieldsOf, linesOf};
+ghost use Rattle.model.specs.Blocks.{commit, content, fieldsOf, linesOf, mark};
 ghost use Rattle.model.specs.Codec.{encode};
+ghost use Rattle.model.specs.Log.{released};
 ghost use Rattle.writer.specs.Blocks.{PutSome, Sourced, Tells, Writable, Wrote, commitBlocks, contentsBy, headOf, lineBytes, linesFrom, sheetIn, sizeIn};
 
 // A change as a commit block has it.
@@ -118,6 +119,26 @@ fn put_commit_block(
     let at = 512 * block;
     let end = at + 512;
     fill_commit(&mut store[at..end], revision, seat, stamp, lines, m);
+}
+
+// A whole release block.
+fn fill_release(d: &mut [u8], revision: usize, seat: u8, stamp: u32)
+    requires { ⌜ (length (now d) ≡ 512) × (revision < 65536) ⌝ }
+    ensures { λ x. ⌜ now (d .exit) ≡ encode fieldsOf (mark (released revision seat stamp)) ⌝ }
+{
+    put_head(d, 6, 0, revision, seat, stamp);
+    block::clear(d, 16, 508);
+    block::seal(d);
+}
+
+// Writes a release block.
+pub fn put_release(store: &mut [u8], block: usize, revision: usize, seat: u8, stamp: u32)
+    requires { ⌜ (512 * block + 512 ≤ length (now store)) × (revision < 65536) ⌝ }
+    ensures { λ x. ⌜ now (store .exit) ≡ written (512 * block) (encode fieldsOf (mark (released revision seat stamp))) (now (store .entry)) ⌝ }
+{
+    let at = 512 * block;
+    let end = at + 512;
+    fill_release(&mut store[at..end], revision, seat, stamp);
 }
 
 // Writes the content block of a sheet whose bytes stand in its entry of the working copy.

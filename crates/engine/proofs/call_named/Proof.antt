@@ -106,6 +106,18 @@ enum-known-named-14 c = search needs
 clear-cut-requires : tie.Need-clear-cut-requires
 clear-cut-requires c κs = search needs
 
+enum-known-named-15 : tie.Need-enum-known-named-15
+enum-known-named-15 c = search needs
+
+release-requires : tie.Need-release-requires
+release-requires c κs = search needs
+
+enum-known-named-16 : tie.Need-enum-known-named-16
+enum-known-named-16 c = search needs
+
+panel-place-requires : tie.Need-panel-place-requires
+panel-place-requires c κs = search needs
+
 same-length : tie.Need-same-length
 same-length c = search needs
 
@@ -243,6 +255,22 @@ returns-15 c =
     let a = c .before .before .before .before .before .before .before .before .before .before .args in
     (meant (a .store .now) (a .copy .now) (a .bytes .now) (c .before .before .before .before .before .named14 .given .1) (ap (λ (o : Created). answered (says (o .says)) (o .buffer) (a .copy .now)) (c .before .before .clear-cut .ensures)), tt)
 
+same-length-27 : tie.Need-same-length-27
+same-length-27 c = search needs
+
+returns-16 : tie.Need-returns-16
+returns-16 c =
+    let a = c .before .before .before .before .before .before .before .before .before .before .args in
+    (meant (a .store .now) (a .copy .now) (a .bytes .now) (c .before .before .before .before .before .named15 .given .1) (ap (λ (o : Created). answered (says (o .says)) (o .buffer) (a .copy .now)) (c .before .before .release .ensures)), tt)
+
+same-length-28 : tie.Need-same-length-28
+same-length-28 c = search needs
+
+returns-17 : tie.Need-returns-17
+returns-17 c =
+    let a = c .before .before .before .before .before .before .before .before .args in
+    (meant (a .store .now) (a .copy .now) (a .bytes .now) (c .before .before .before .named16 .given .1) (ap (λ (p : Place). answered (stands p) (a .store .now) (a .copy .now)) (c .panel-place .ensures .is)), none-inside (a .store .now) (a .copy .now) (c .panel-place .result) (c .panel-place .ensures .inside))
+
 pub call-named-spec : {M : Type 1} → statement M
 call-named-spec =
     tie.close
@@ -277,6 +305,10 @@ call-named-spec =
     commit-cut-requires
     enum-known-named-14
     clear-cut-requires
+    enum-known-named-15
+    release-requires
+    enum-known-named-16
+    panel-place-requires
     same-length
     same-length-2
     returns
@@ -317,4 +349,8 @@ call-named-spec =
     same-length-25
     returns-14
     same-length-26
-    returns-15)
+    returns-15
+    same-length-27
+    returns-16
+    same-length-28
+    returns-17)

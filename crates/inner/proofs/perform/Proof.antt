@@ -3,7 +3,7 @@
 use native.Mathlib.Omega.{arith}
 use borrow.Author.Needs.{needs}
 use Rattle.model.specs.Machine.{Add, Commits, CommitsCut, Copy, Delete, Edit, Move, Revert, Update}
-use Rattle.inner.proofs.Performing.{clears, clears-cut, files, fitting-open, inner-is, local-is, logs, meant, reads, shows, states, stays, whole}
+use Rattle.inner.proofs.Performing.{clears, clears-cut, files, fitting-open, inner-is, local-is, logs, meant, panels, reads, releases, shows, states, stays, whole}
 use Rattle.inner.proofs.perform.Statement.{statement}
 use Rattle.inner.proofs.perform.Tie as tie
 use Rattle.inner.specs.declared.Reply.the-variants.{Said}
@@ -145,6 +145,21 @@ clear-in-requires-2 c κs = let k = c .before .before .before .before .before .b
 
 stay-requires-13 : tie.Need-stay-requires-13
 stay-requires-13 c κs = search needs
+
+enum-known-call-15 : tie.Need-enum-known-call-15
+enum-known-call-15 c = search needs
+
+release-in-requires : tie.Need-release-in-requires
+release-in-requires c κs = let s = c .before .before .before .before .before .before .before in fitting-open (s .args .store .now) (s .args .copy .now) (s .args .v) (s .pre)
+
+enum-known-call-16 : tie.Need-enum-known-call-16
+enum-known-call-16 c = search needs
+
+panel-in-requires : tie.Need-panel-in-requires
+panel-in-requires c κs = let s = c .before .before .before .before .before .before .before in fitting-open (s .args .store .now) (s .args .copy .now) (s .args .v) (s .pre)
+
+stay-requires-14 : tie.Need-stay-requires-14
+stay-requires-14 c κs = search needs
 
 same-length : tie.Need-same-length
 same-length c = search needs
@@ -333,6 +348,30 @@ returns-15 c =
     meant (a .store .now) (a .copy .now) (a .v) (s .pre) (a .bytes .now) (g .1)
     (clears-cut (a .store .now) (a .copy .now) (a .v) (s .pre) (g .0 .0) (r .result) (r .ensures) (c .stay13 .ensures))
 
+same-length-22 : tie.Need-same-length-22
+same-length-22 c = search needs
+
+returns-16 : tie.Need-returns-16
+returns-16 c =
+    let s = c .before .before .before .before .before .before .before .before .before .before in
+    let a = s .args in
+    let g = c .before .before .before .before .before .call15 .given in
+    let r = c .before .before .release-in in
+    meant (a .store .now) (a .copy .now) (a .v) (s .pre) (a .bytes .now) (g .1)
+    (releases (a .store .now) (a .copy .now) (a .v) (s .pre) (g .0 .0) (g .0 .1 .0) (g .0 .1 .1 .0) (omega (arith, c .before .before .before .before .known-told15 .given)) (r .result) (r .ensures))
+
+same-length-23 : tie.Need-same-length-23
+same-length-23 c = search needs
+
+returns-17 : tie.Need-returns-17
+returns-17 c =
+    let s = c .before .before .before .before .before .before .before .before .before in
+    let a = s .args in
+    let g = c .before .before .before .before .call16 .given in
+    let r = c .before .panel-in in
+    meant (a .store .now) (a .copy .now) (a .v) (s .pre) (a .bytes .now) (g .1)
+    (panels (a .store .now) (a .copy .now) (a .v) (s .pre) (g .0 .0) (g .0 .1 .0) (r .result) (r .ensures) (c .stay14 .ensures))
+
 pub perform-spec : {M : Type 1} → statement M
 perform-spec =
     tie.close
@@ -382,6 +421,11 @@ perform-spec =
     cast-clear-in
     clear-in-requires-2
     stay-requires-13
+    enum-known-call-15
+    release-in-requires
+    enum-known-call-16
+    panel-in-requires
+    stay-requires-14
     same-length
     returns
     same-length-2
@@ -417,4 +461,8 @@ perform-spec =
     same-length-20
     returns-14
     same-length-21
-    returns-15)
+    returns-15
+    same-length-22
+    returns-16
+    same-length-23
+    returns-17)

@@ -33,13 +33,22 @@ commit-shape-requires c κs = search needs
 returns-3 : tie.Need-returns-3
 returns-3 c = search needs
 
+shared-slice-read-if4 : tie.Need-shared-slice-read-if4
+shared-slice-read-if4 c = search needs
+
+release-shape-requires : tie.Need-release-shape-requires
+release-shape-requires c κs = search needs
+
+returns-4 : tie.Need-returns-4
+returns-4 c = search needs
+
 zeros-requires : tie.Need-zeros-requires
 zeros-requires c κs = search needs
 
-returns-4 : tie.Need-returns-4
-returns-4 c = let k = c .before .before .before .before .before .before .before .before in c .zeros .ensures
-    ∙ sym (blank-shaped (k .args .s .now) (k .pre) (c .before .before .before .before .before .if1 .left) (c .before .before .before .if2 .left)
-    (c .before .if3 .left))
+returns-5 : tie.Need-returns-5
+returns-5 c = let k = c .before .before .before .before .before .before .before .before .before .before in c .zeros .ensures
+    ∙ sym (blank-shaped (k .args .s .now) (k .pre) (c .before .before .before .before .before .before .before .if1 .left) (c .before .before .before .before .before .if2 .left)
+    (c .before .before .before .if3 .left) (c .before .if4 .left))
 
 pub shape-spec : {M : Type 1} → statement M
 shape-spec =
@@ -54,5 +63,8 @@ shape-spec =
     shared-slice-read-if3
     commit-shape-requires
     returns-3
+    shared-slice-read-if4
+    release-shape-requires
+    returns-4
     zeros-requires
-    returns-4)
+    returns-5)

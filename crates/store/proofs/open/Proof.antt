@@ -1,19 +1,37 @@
--- `store::open` meets its contract: each refusal in its order, and then the pass.
+-- `store::open` meets its contract: each refusal in its order, then the pass, and then all marks together.
 -- Assumes nothing.
 use Prim.Native.Nat.{_/_, ℕ}
-use mathlib.Core.Path.{_∙_, ap, sym}
+use mathlib.Core.Bool.{true}
+use mathlib.Core.Path.{_∙_, _≡_, ap, sym}
 use native.Mathlib.Omega.{arith}
+use borrow.Author.Needs.{needs}
 use borrow.Author.Tests.{not-false, not-true}
 use lib.ListN.{length}
 use Rattle.block.specs.Lists.{all}
+use Rattle.laws.proofs.Untailing.{shapedIn}
 use Rattle.model.specs.Blocks.{fieldsOf, fitsBlock, parse}
 use Rattle.model.specs.Codec.{parts, shaped}
+use Rattle.model.specs.Store.{checkedBut, wholeIn}
 use Rattle.store.proofs.Blocks.{part-size}
-use Rattle.store.proofs.OpenLaws.{counted-is, open-large, open-none, open-odd, open-passed, open-small, open-unchecked, open-unlabelled, open-unshaped, whole-is}
-use Rattle.store.specs.Opened.{passedAll}
-use borrow.Author.Needs.{needs}
+use Rattle.store.proofs.OpenLaws.{counted-is, open-laid, open-large, open-marked, open-none, open-odd, open-small, open-unchecked, open-unlabelled, open-unshaped, whole-is}
 use Rattle.store.proofs.open.Statement.{statement}
 use Rattle.store.proofs.open.Tie as tie
+use Rattle.store.specs.Opened.{markedOf, passedAll}
+
+-- the blocks that are counted are the whole ones, and the checks before the last are right
+is-whole : (c : tie.After-whole) → c .whole .result ≡ wholeIn (length (c .before .before .before .before .before .before .before .before .before .before .args .store .now) / 512) (c .before .before .before .before .before .before .before .before .before .before .args .store .now)
+is-whole c = let s = c .before .before .before .before .before .before .before .before .before .before .args .store .now in whole-is (length s / 512) (c .before .before .before .before .before .filled .result) (c .whole .result) s (c .before .before .before .before .before .filled .ensures .0) (c .whole .ensures .0)
+
+is-checked : (c : tie.After-whole) → checkedBut (length (c .before .before .before .before .before .before .before .before .before .before .args .store .now) / 512) (c .before .before .before .before .before .before .before .before .before .before .args .store .now) ≡ true
+is-checked c =
+    let s = c .before .before .before .before .before .before .before .before .before .before .args .store .now in
+    sym (counted-is (length s / 512) (c .before .before .before .before .before .filled .result) (c .before .before .before .counted .result) s (c .before .before .before .before .before .filled .ensures .0) (c .before .before .before .counted .ensures .0))
+    ∙ sym (c .before .before .all-sealed .ensures) ∙ not-false _ (c .before .if5 .left)
+
+is-shaped : (c : tie.After-kind-arg) → shapedIn (length (c .before .before .before .before .before .before .before .before .before .before .before .before .before .args .store .now) / 512) (c .before .before .before .before .before .before .before .before .before .before .before .before .before .args .store .now) ≡ true
+is-shaped c =
+    let s = c .before .before .before .before .before .before .before .before .before .before .before .before .before .args .store .now in
+    ap (λ (x : ℕ). all (shaped fieldsOf parse fitsBlock) (parts x s)) (sym (is-whole (c .before .before .before))) ∙ sym (c .before .before .all-shaped .ensures) ∙ not-false _ (c .before .if6 .left)
 
 returns : tie.Need-returns
 returns c = sym (open-odd (c .before .before .args .store .now) (c .if1 .taken))
@@ -39,10 +57,8 @@ all-sealed-requires c κs = omega arith
 returns-5 : tie.Need-returns-5
 returns-5 c =
     let s = c .before .before .before .before .before .before .before .before .before .args .store .now in
-    let n : ℕ = length s / 512 in
     sym (open-unchecked s (c .before .before .before .before .before .before .before .if1 .left) (omega (arith, c .before .before .before .before .before .before .if2 .left)) (omega (arith, c .before .before .before .before .before .if3 .left))
-    (sym (counted-is n (c .before .before .before .before .filled .result) (c .before .before .counted .result) s (c .before .before .before .before .filled .ensures .0) (c .before .before .counted .ensures .0))
-    ∙ sym (c .before .all-sealed .ensures) ∙ not-true _ (c .if5 .taken)))
+    (sym (counted-is (length s / 512) (c .before .before .before .before .filled .result) (c .before .before .counted .result) s (c .before .before .before .before .filled .ensures .0) (c .before .before .counted .ensures .0)) ∙ sym (c .before .all-sealed .ensures) ∙ not-true _ (c .if5 .taken)))
 
 whole-requires : tie.Need-whole-requires
 whole-requires c κs = omega arith
@@ -53,13 +69,8 @@ all-shaped-requires c κs = omega arith
 returns-6 : tie.Need-returns-6
 returns-6 c =
     let s = c .before .before .before .before .before .before .before .before .before .before .before .before .args .store .now in
-    let n : ℕ = length s / 512 in
-    let m = c .before .before .whole .result in
-    let e = whole-is n (c .before .before .before .before .before .before .before .filled .result) m s (c .before .before .before .before .before .before .before .filled .ensures .0) (c .before .before .whole .ensures .0) in
-    let t = sym (counted-is n (c .before .before .before .before .before .before .before .filled .result) (c .before .before .before .before .before .counted .result) s (c .before .before .before .before .before .before .before .filled .ensures .0) (c .before .before .before .before .before .counted .ensures .0))
-    ∙ sym (c .before .before .before .before .all-sealed .ensures) ∙ not-false _ (c .before .before .before .if5 .left) in
-    sym (open-unshaped s (c .before .before .before .before .before .before .before .before .before .before .if1 .left) (omega (arith, c .before .before .before .before .before .before .before .before .before .if2 .left)) (omega (arith, c .before .before .before .before .before .before .before .before .if3 .left)) t
-    (ap (λ (x : ℕ). all (shaped fieldsOf parse fitsBlock) (parts x s)) (sym e) ∙ sym (c .before .all-shaped .ensures) ∙ not-true _ (c .if6 .taken)))
+    sym (open-unshaped s (c .before .before .before .before .before .before .before .before .before .before .if1 .left) (omega (arith, c .before .before .before .before .before .before .before .before .before .if2 .left)) (omega (arith, c .before .before .before .before .before .before .before .before .if3 .left)) (is-checked (c .before .before))
+    (ap (λ (x : ℕ). all (shaped fieldsOf parse fitsBlock) (parts x s)) (sym (is-whole (c .before .before))) ∙ sym (c .before .all-shaped .ensures) ∙ not-true _ (c .if6 .taken)))
 
 sub-kind : tie.Need-sub-kind
 sub-kind c = search needs
@@ -76,46 +87,21 @@ kind-requires c κs = let s = c .before .before .before .before .before .before 
 returns-7 : tie.Need-returns-7
 returns-7 c =
     let s = c .before .before .before .before .before .before .before .before .before .before .before .before .before .before .before .args .store .now in
-    let n : ℕ = length s / 512 in
-    let m = c .before .before .before .before .before .whole .result in
-    let e = whole-is n (c .before .before .before .before .before .before .before .before .before .before .filled .result) m s (c .before .before .before .before .before .before .before .before .before .before .filled .ensures .0) (c .before .before .before .before .before .whole .ensures .0) in
-    let t = sym (counted-is n (c .before .before .before .before .before .before .before .before .before .before .filled .result) (c .before .before .before .before .before .before .before .before .counted .result) s (c .before .before .before .before .before .before .before .before .before .before .filled .ensures .0) (c .before .before .before .before .before .before .before .before .counted .ensures .0))
-    ∙ sym (c .before .before .before .before .before .before .before .all-sealed .ensures) ∙ not-false _ (c .before .before .before .before .before .before .if5 .left) in
-    let f = ap (λ (x : ℕ). all (shaped fieldsOf parse fitsBlock) (parts x s)) (sym e) ∙ sym (c .before .before .before .before .all-shaped .ensures) ∙ not-false _ (c .before .before .before .if6 .left) in
-    sym (open-unlabelled s (c .before .before .before .before .before .before .before .before .before .before .before .before .before .if1 .left) (omega (arith, c .before .before .before .before .before .before .before .before .before .before .before .before .if2 .left)) (omega (arith, c .before .before .before .before .before .before .before .before .before .before .before .if3 .left)) t f
-    (omega (arith, e, c .before .before .before .before .before .whole .ensures .1)) (λ k. c .if7 .taken (c .before .kind .ensures ∙ k)))
+    sym (open-unlabelled s (c .before .before .before .before .before .before .before .before .before .before .before .before .before .if1 .left) (omega (arith, c .before .before .before .before .before .before .before .before .before .before .before .before .if2 .left)) (omega (arith, c .before .before .before .before .before .before .before .before .before .before .before .if3 .left)) (is-checked (c .before .before .before .before .before)) (is-shaped (c .before .before)) (omega (arith, is-whole (c .before .before .before .before .before), c .before .before .before .before .before .whole .ensures .1)) (λ k. c .if7 .taken (c .before .kind .ensures ∙ k)))
 
-pass-small-requires : tie.Need-pass-small-requires
-pass-small-requires c κs = (omega arith, omega arith, omega arith)
+pass-sized-requires : tie.Need-pass-sized-requires
+pass-sized-requires c κs = (omega arith, omega arith, omega arith)
+
+marked-requires : tie.Need-marked-requires
+marked-requires c κs =
+    let s = c .before .before .before .before .before .before .before .before .before .before .before .before .before .before .before .before .args .store .now in
+    ((λ h e. open-laid s (c .before .before .before .before .before .before .before .before .before .before .before .before .before .before .if1 .left) (omega (arith, c .before .before .before .before .before .before .before .before .before .before .before .before .before .if2 .left)) (omega (arith, c .before .before .before .before .before .before .before .before .before .before .before .before .if3 .left)) (is-checked (c .before .before .before .before .before .before)) (is-shaped (c .before .before .before)) (omega (arith, is-whole (c .before .before .before .before .before .before), c .before .before .before .before .before .before .whole .ensures .1)) (sym (c .before .before .kind .ensures) ∙ c .before .if7 .left) (omega (arith, is-whole (c .before .before .before .before .before .before), c .before .before .before .before .before .before .whole .ensures .2, c .before .before .before .before .before .before .before .before .before .before .before .filled .ensures .1)) h (ap (λ (x : ℕ). passedAll x s) (sym (is-whole (c .before .before .before .before .before .before))) ∙ sym (c .pass-sized .ensures .is) ∙ e)), c .pass-sized .ensures .markless)
 
 returns-8 : tie.Need-returns-8
 returns-8 c =
     let s = c .before .before .before .before .before .before .before .before .before .before .before .before .before .before .before .before .before .args .store .now in
-    let n : ℕ = length s / 512 in
-    let m = c .before .before .before .before .before .before .before .whole .result in
-    let e = whole-is n (c .before .before .before .before .before .before .before .before .before .before .before .before .filled .result) m s (c .before .before .before .before .before .before .before .before .before .before .before .before .filled .ensures .0) (c .before .before .before .before .before .before .before .whole .ensures .0) in
-    let t = sym (counted-is n (c .before .before .before .before .before .before .before .before .before .before .before .before .filled .result) (c .before .before .before .before .before .before .before .before .before .before .counted .result) s (c .before .before .before .before .before .before .before .before .before .before .before .before .filled .ensures .0) (c .before .before .before .before .before .before .before .before .before .before .counted .ensures .0))
-    ∙ sym (c .before .before .before .before .before .before .before .before .before .all-sealed .ensures) ∙ not-false _ (c .before .before .before .before .before .before .before .before .if5 .left) in
-    let f = ap (λ (x : ℕ). all (shaped fieldsOf parse fitsBlock) (parts x s)) (sym e) ∙ sym (c .before .before .before .before .before .before .all-shaped .ensures) ∙ not-false _ (c .before .before .before .before .before .if6 .left) in
-    c .pass-small .ensures ∙ ap (λ (x : ℕ). passedAll x s) e
-    ∙ open-passed s (c .before .before .before .before .before .before .before .before .before .before .before .before .before .before .before .if1 .left) (omega (arith, c .before .before .before .before .before .before .before .before .before .before .before .before .before .before .if2 .left)) (omega (arith, c .before .before .before .before .before .before .before .before .before .before .before .before .before .if3 .left)) t f
-    (omega (arith, e, c .before .before .before .before .before .before .before .whole .ensures .1)) (sym (c .before .before .before .kind .ensures) ∙ c .before .before .if7 .left)
-
-pass-large-requires : tie.Need-pass-large-requires
-pass-large-requires c κs = (omega arith, omega arith, omega arith)
-
-returns-9 : tie.Need-returns-9
-returns-9 c =
-    let s = c .before .before .before .before .before .before .before .before .before .before .before .before .before .before .before .before .before .args .store .now in
-    let n : ℕ = length s / 512 in
-    let m = c .before .before .before .before .before .before .before .whole .result in
-    let e = whole-is n (c .before .before .before .before .before .before .before .before .before .before .before .before .filled .result) m s (c .before .before .before .before .before .before .before .before .before .before .before .before .filled .ensures .0) (c .before .before .before .before .before .before .before .whole .ensures .0) in
-    let t = sym (counted-is n (c .before .before .before .before .before .before .before .before .before .before .before .before .filled .result) (c .before .before .before .before .before .before .before .before .before .before .counted .result) s (c .before .before .before .before .before .before .before .before .before .before .before .before .filled .ensures .0) (c .before .before .before .before .before .before .before .before .before .before .counted .ensures .0))
-    ∙ sym (c .before .before .before .before .before .before .before .before .before .all-sealed .ensures) ∙ not-false _ (c .before .before .before .before .before .before .before .before .if5 .left) in
-    let f = ap (λ (x : ℕ). all (shaped fieldsOf parse fitsBlock) (parts x s)) (sym e) ∙ sym (c .before .before .before .before .before .before .all-shaped .ensures) ∙ not-false _ (c .before .before .before .before .before .if6 .left) in
-    c .pass-large .ensures ∙ ap (λ (x : ℕ). passedAll x s) e
-    ∙ open-passed s (c .before .before .before .before .before .before .before .before .before .before .before .before .before .before .before .if1 .left) (omega (arith, c .before .before .before .before .before .before .before .before .before .before .before .before .before .before .if2 .left)) (omega (arith, c .before .before .before .before .before .before .before .before .before .before .before .before .before .if3 .left)) t f
-    (omega (arith, e, c .before .before .before .before .before .before .before .whole .ensures .1)) (sym (c .before .before .before .kind .ensures) ∙ c .before .before .if7 .left)
+    c .marked .ensures ∙ ap (markedOf s) (c .before .pass-sized .ensures .is ∙ ap (λ (x : ℕ). passedAll x s) (is-whole (c .before .before .before .before .before .before .before)))
+    ∙ open-marked s (c .before .before .before .before .before .before .before .before .before .before .before .before .before .before .before .if1 .left) (omega (arith, c .before .before .before .before .before .before .before .before .before .before .before .before .before .before .if2 .left)) (omega (arith, c .before .before .before .before .before .before .before .before .before .before .before .before .before .if3 .left)) (is-checked (c .before .before .before .before .before .before .before)) (is-shaped (c .before .before .before .before)) (omega (arith, is-whole (c .before .before .before .before .before .before .before), c .before .before .before .before .before .before .before .whole .ensures .1)) (sym (c .before .before .before .kind .ensures) ∙ c .before .before .if7 .left)
 
 pub open-spec : {M : Type 1} → statement M
 open-spec =
@@ -137,7 +123,6 @@ open-spec =
     part-kind-end
     kind-requires
     returns-7
-    pass-small-requires
-    returns-8
-    pass-large-requires
-    returns-9)
+    pass-sized-requires
+    marked-requires
+    returns-8)

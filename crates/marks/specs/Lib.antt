@@ -1,0 +1,3 @@
+-- The definitions that the contracts of `marks` cite.
+pub mod Laid
+pub mod Revisions
