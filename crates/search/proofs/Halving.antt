@@ -5,15 +5,15 @@ use mathlib.Core.List.{List}
 use mathlib.Core.Logic.{inl, inr}
 use mathlib.Core.Path.{_∙_, _≡_, ap, subst, sym}
 use native.Mathlib.Omega.{arith}
-use lib.ListN.{length}
+use lib.ListN.{getD, length}
 use Rattle.block.proofs.Says.{eq-or}
 use Rattle.block.specs.Buffer.{blockAt}
 use Rattle.block.specs.Field.{twoAt}
-use Rattle.model.specs.Blocks.{Block, parse}
+use Rattle.model.specs.Blocks.{Block, blank, parse}
 use Rattle.model.specs.History.{Bytes, History, last}
 use Rattle.model.specs.Store.{blocksOf, storeHistory}
 use Rattle.laws.proofs.Parts.{lent-block}
-use Rattle.search.proofs.Revisions.{Passed, count-marks, count-more, era-end, passed, rev-at, same-history, used-low}
+use Rattle.search.proofs.Revisions.{Passed, after-label, count-marks, count-more, era-commit, era-end, passed, rev-at, same-history, used-low}
 use Rattle.search.specs.Find.{Accepted, Bound, Dated, eraAt}
 use Rattle.shape.specs.Shape.{kindOf}
 use Rattle.store.proofs.Blocks.{block-at, lent}
@@ -77,6 +77,20 @@ module _ (s : Bytes) (n used : ℕ) (A : Accepted s n used) (r : ℕ) where
 
   pub halved-room : (lo hi : ℕ) → Halved (blocksOf used s) used r lo hi → (hi ≤ 4_096) × (hi * 512 ≤ length s)
   halved-room lo hi H = (omega (arith, H .high, P .few), omega (arith, H .high, P .whole))
+
+  -- only commit r states r and is a commit block
+  pub bound-behind : (p v : ℕ) → p < used → kindOf (parse (lent s p)) ≡ 3 → v ≡ twoAt (lent s p) 4 → v ≡ r → Bound (blocksOf used s) used r (p + 1)
+  bound-behind p v h k ev e =
+      let d : getD (blocksOf used s) p blank ≡ parse (lent s p) = block-at used p s h in
+      let l : 1 ≤ p = after-label s used used P p (ap kindOf d ∙ k) in
+      let w = rev-at s used used P p l h (λ m. absurd (omega (arith, k, m))) in
+      let f = era-commit (blocksOf used s) p (ap kindOf d ∙ k) in
+      record {
+        low = omega arith;
+        high = omega arith;
+        before = λ q g j. omega (arith, w, ev, e, era-more (blocksOf used s) q p (omega arith));
+        after = λ q g j. omega (arith, w, ev, e, f, era-more (blocksOf used s) (p + 1) q g);
+      }
 
   module _ (lo hi mid q : ℕ) (H : Halved (blocksOf used s) used r lo hi) (a : lo ≤ mid) (b : mid < hi) (D : Dated s mid hi q) where
     -- the marks before block q are of its era

@@ -125,6 +125,19 @@ count-marks bs p (suc k) h =
     none (mark m) e = refl
     none blank e = refl
 
+-- a commit block ends its era
+pub era-commit : (bs : List Block) (p : ℕ) → kindOf (getD bs p blank) ≡ 3 → eraAt bs (p + 1) ≡ suc (eraAt bs p)
+era-commit bs p e =
+    let w : count (take (p + 1) bs) ≡ count (take (suc p) bs) = ap (λ (x : ℕ). count (take x bs)) (add-one p) in
+    omega (arith, w, count-next bs p, one (getD bs p blank) e)
+  where
+    one : (b : Block) → kindOf b ≡ 3 → count (b ∷ []) ≡ 1
+    one label h = absurd (omega arith)
+    one (content r b) h = absurd (omega arith)
+    one (commit r s t ls) h = refl
+    one (mark m) h = absurd (omega arith)
+    one blank h = absurd (omega arith)
+
 -- what follows a mark is laid out too
 pub after-mark : (look : ℕ → List ℕ) (at k : ℕ) (tables : List Table) (m : Mark) (bs : List Block) → T (okFrom look at k tables (mark m ∷ bs)) → T (okFrom look (suc at) 0 tables bs)
 unfolding okFrom
@@ -246,6 +259,11 @@ module _ (s : List ℕ) (n used : ℕ) (A : Passed s n used) where
 
   pub used-high : used ≤ n
   used-high = omega (arith, A .inUse, used-few (blocksOf n s), length-blocks n s)
+
+  -- no commit block stands in the label's place
+  pub after-label : (p : ℕ) → kindOf (getD (blocksOf n s) p blank) ≡ 3 → 1 ≤ p
+  after-label zero e = absurd (let l = ap (λ (x : List Block). kindOf (getD x 0 blank)) whole in omega (arith, l, e))
+  after-label (suc p) e = omega arith
 
   -- the era of block p
   pub era-rest : (p : ℕ) → 1 ≤ p → eraAt (blocksOf n s) p ≡ 1 + count (take (p - 1) rest)

@@ -39,9 +39,29 @@ fn next_dated(store: &[u8], from: usize, to: usize) -> usize
     q
 }
 
+// Where halving by byte 4 of the blocks ends: on a store without marks, the first block after commit r.
+fn halved(store: &[u8], used: usize, r: usize) -> usize
+    requires { ⌜ (1 ≤ used) × (used ≤ 4096) × (used * 512 ≤ length (now store)) ⌝ }
+    ensures { λ x. ⌜ (1 ≤ x) × (x ≤ used) ⌝ }
+{
+    let mut lo: usize = 1;
+    let mut hi = used;
+    while lo < hi {
+        let mid = (lo + hi) / 2;
+        let a = mid * 512;
+        let e = a + 512;
+        if shape::two_at(&store[a..e], 4) as usize <= r {
+            lo = mid + 1;
+            continue;
+        }
+        hi = mid;
+    }
+    lo
+}
+
 // The first block after commit r, or after the label where r is 0: the interval is halved, since the revisions that content and commit blocks state rise. What a mark
 // states is not where it stands, so the next block that is no mark is asked in its place.
-fn bound(store: &[u8], n: usize, used: usize, r: usize) -> usize
+fn bound_among_marks(store: &[u8], n: usize, used: usize, r: usize) -> usize
     requires { ⌜ Accepted (now store) n used × (r ≤ last (storeHistory (now store))) ⌝ }
     ensures { λ x. ⌜ Bound (blocksOf used (now (store .entry))) used r x ⌝ }
 {
@@ -74,6 +94,23 @@ fn bound(store: &[u8], n: usize, used: usize, r: usize) -> usize
         hi = mid;
     }
     lo
+}
+
+// The same. Where marks did not mislead the plain halving, the block before its end is commit r, and no other block is.
+fn bound(store: &[u8], n: usize, used: usize, r: usize) -> usize
+    requires { ⌜ Accepted (now store) n used × (r ≤ last (storeHistory (now store))) ⌝ }
+    ensures { λ x. ⌜ Bound (blocksOf used (now (store .entry))) used r x ⌝ }
+{
+    let p = halved(store, used, r);
+    let a = (p - 1) * 512;
+    let e = a + 512;
+    let b = &store[a..e];
+    if shape::kind(b) == 3 {
+        if shape::two_at(b, 4) as usize == r {
+            return p;
+        }
+    }
+    bound_among_marks(store, n, used, r)
 }
 
 // The newest change of sheet i in the commits before block `end`.

@@ -354,17 +354,6 @@ fn pass_large(store: &[u8], n: usize) -> Passed
     pass(store, n, &mut tab)
 }
 
-// The pass, with the smaller table where it is enough.
-fn pass_sized(store: &[u8], n: usize) -> Passed
-    requires { ⌜ (n * 512 ≤ length (now store)) × (1 ≤ n) × (n ≤ 4096) ⌝ }
-    ensures { λ x. ⌜ PassedAs n (now (store .entry)) x ⌝ }
-{
-    if n <= 64 {
-        return pass_small(store, n);
-    }
-    pass_large(store, n)
-}
-
 // The pass's answer, or the refusal of marks that do not go together.
 fn marked(store: &[u8], o: Passed) -> Opened
     requires { ⌜ ((h : Header) → openedAs o ≡ Open h → Laid (now store) (h .used)) × Markless (now store) o ⌝ }
@@ -451,5 +440,10 @@ pub fn open(store: &[u8]) -> Opened
     if shape::kind(&store[0..512]) != 1 {
         return Opened::Refused(Refusal::StoreLayout);
     }
-    marked(store, pass_sized(store, m))
+    let passed = if m <= 64 {
+        pass_small(store, m)
+    } else {
+        pass_large(store, m)
+    };
+    marked(store, passed)
 }

@@ -2,7 +2,8 @@
 -- Assumes nothing.
 use Prim.Native.Nat.{_/_, ℕ}
 use mathlib.Core.Bool.{true}
-use mathlib.Core.Path.{_∙_, _≡_, ap, sym}
+use mathlib.Core.Logic.{inl, inr}
+use mathlib.Core.Path.{_∙_, _≡_, ap, subst, sym}
 use native.Mathlib.Omega.{arith}
 use borrow.Author.Needs.{needs}
 use borrow.Author.Tests.{not-false, not-true}
@@ -16,7 +17,7 @@ use Rattle.store.proofs.Blocks.{part-size}
 use Rattle.store.proofs.OpenLaws.{counted-is, open-laid, open-large, open-marked, open-none, open-odd, open-small, open-unchecked, open-unlabelled, open-unshaped, whole-is}
 use Rattle.store.proofs.open.Statement.{statement}
 use Rattle.store.proofs.open.Tie as tie
-use Rattle.store.specs.Opened.{markedOf, passedAll}
+use Rattle.store.specs.Opened.{PassedAs, markedOf, passedAll}
 
 -- the blocks that are counted are the whole ones, and the checks before the last are right
 is-whole : (c : tie.After-whole) → c .whole .result ≡ wholeIn (length (c .before .before .before .before .before .before .before .before .before .before .args .store .now) / 512) (c .before .before .before .before .before .before .before .before .before .before .args .store .now)
@@ -89,18 +90,31 @@ returns-7 c =
     let s = c .before .before .before .before .before .before .before .before .before .before .before .before .before .before .before .args .store .now in
     sym (open-unlabelled s (c .before .before .before .before .before .before .before .before .before .before .before .before .before .if1 .left) (omega (arith, c .before .before .before .before .before .before .before .before .before .before .before .before .if2 .left)) (omega (arith, c .before .before .before .before .before .before .before .before .before .before .before .if3 .left)) (is-checked (c .before .before .before .before .before)) (is-shaped (c .before .before)) (omega (arith, is-whole (c .before .before .before .before .before), c .before .before .before .before .before .whole .ensures .1)) (λ k. c .if7 .taken (c .before .kind .ensures ∙ k)))
 
-pass-sized-requires : tie.Need-pass-sized-requires
-pass-sized-requires c κs = (omega arith, omega arith, omega arith)
+pass-small-requires : tie.Need-pass-small-requires
+pass-small-requires c κs = (omega arith, omega arith, omega arith)
+
+pass-large-requires : tie.Need-pass-large-requires
+pass-large-requires c κs = (omega arith, omega arith, omega arith)
+
+-- whichever table served
+is-passed : (c : tie.Joined8) → PassedAs (c .before .before .before .before .before .before .whole .result) (c .before .before .before .before .before .before .before .before .before .before .before .before .before .before .before .before .args .store .now) (c .if8 .passed)
+is-passed c =
+    let s = c .before .before .before .before .before .before .before .before .before .before .before .before .before .before .before .before .args .store .now in
+    let m = c .before .before .before .before .before .before .whole .result in
+    elim (c .if8 .came) [
+      | inl w ↦ subst (PassedAs m s) (sym (w .2)) (w .1 .ensures)
+      | inr w ↦ subst (PassedAs m s) (sym (w .2)) (w .1 .ensures)
+    ]
 
 marked-requires : tie.Need-marked-requires
 marked-requires c κs =
     let s = c .before .before .before .before .before .before .before .before .before .before .before .before .before .before .before .before .args .store .now in
-    ((λ h e. open-laid s (c .before .before .before .before .before .before .before .before .before .before .before .before .before .before .if1 .left) (omega (arith, c .before .before .before .before .before .before .before .before .before .before .before .before .before .if2 .left)) (omega (arith, c .before .before .before .before .before .before .before .before .before .before .before .before .if3 .left)) (is-checked (c .before .before .before .before .before .before)) (is-shaped (c .before .before .before)) (omega (arith, is-whole (c .before .before .before .before .before .before), c .before .before .before .before .before .before .whole .ensures .1)) (sym (c .before .before .kind .ensures) ∙ c .before .if7 .left) (omega (arith, is-whole (c .before .before .before .before .before .before), c .before .before .before .before .before .before .whole .ensures .2, c .before .before .before .before .before .before .before .before .before .before .before .filled .ensures .1)) h (ap (λ (x : ℕ). passedAll x s) (sym (is-whole (c .before .before .before .before .before .before))) ∙ sym (c .pass-sized .ensures .is) ∙ e)), c .pass-sized .ensures .markless)
+    ((λ h e. open-laid s (c .before .before .before .before .before .before .before .before .before .before .before .before .before .before .if1 .left) (omega (arith, c .before .before .before .before .before .before .before .before .before .before .before .before .before .if2 .left)) (omega (arith, c .before .before .before .before .before .before .before .before .before .before .before .before .if3 .left)) (is-checked (c .before .before .before .before .before .before)) (is-shaped (c .before .before .before)) (omega (arith, is-whole (c .before .before .before .before .before .before), c .before .before .before .before .before .before .whole .ensures .1)) (sym (c .before .before .kind .ensures) ∙ c .before .if7 .left) (omega (arith, is-whole (c .before .before .before .before .before .before), c .before .before .before .before .before .before .whole .ensures .2, c .before .before .before .before .before .before .before .before .before .before .before .filled .ensures .1)) h (ap (λ (x : ℕ). passedAll x s) (sym (is-whole (c .before .before .before .before .before .before))) ∙ sym (is-passed c .is) ∙ e)), is-passed c .markless)
 
 returns-8 : tie.Need-returns-8
 returns-8 c =
     let s = c .before .before .before .before .before .before .before .before .before .before .before .before .before .before .before .before .before .args .store .now in
-    c .marked .ensures ∙ ap (markedOf s) (c .before .pass-sized .ensures .is ∙ ap (λ (x : ℕ). passedAll x s) (is-whole (c .before .before .before .before .before .before .before)))
+    c .marked .ensures ∙ ap (markedOf s) (is-passed (c .before) .is ∙ ap (λ (x : ℕ). passedAll x s) (is-whole (c .before .before .before .before .before .before .before)))
     ∙ open-marked s (c .before .before .before .before .before .before .before .before .before .before .before .before .before .before .before .if1 .left) (omega (arith, c .before .before .before .before .before .before .before .before .before .before .before .before .before .before .if2 .left)) (omega (arith, c .before .before .before .before .before .before .before .before .before .before .before .before .before .if3 .left)) (is-checked (c .before .before .before .before .before .before .before)) (is-shaped (c .before .before .before .before)) (omega (arith, is-whole (c .before .before .before .before .before .before .before), c .before .before .before .before .before .before .before .whole .ensures .1)) (sym (c .before .before .before .kind .ensures) ∙ c .before .before .if7 .left)
 
 pub open-spec : {M : Type 1} → statement M
@@ -123,6 +137,7 @@ open-spec =
     part-kind-end
     kind-requires
     returns-7
-    pass-sized-requires
+    pass-small-requires
+    pass-large-requires
     marked-requires
     returns-8)
