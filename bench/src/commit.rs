@@ -16,7 +16,7 @@ fn block_mut(bytes: &mut [u8], p: usize) -> &mut [u8] {
 }
 
 /// Blocks behind the used ones, up to the first that is zero: the tail of an accepted store.
-fn tail(store: &[u8], used: usize) -> usize {
+pub fn tail(store: &[u8], used: usize) -> usize {
     store[used * BLOCK..].chunks_exact(BLOCK).take_while(|b| !zero_block(b)).count()
 }
 

@@ -135,6 +135,16 @@ pub fn read(store: &[u8], revision: u32, sheet: u32) -> Place {
     unsafe { c::sheets_read(store.as_ptr(), store.len(), revision, sheet) }
 }
 
+#[cfg(not(feature = "before-w9"))]
+pub fn panel_read(store: &[u8], revision: u32, sheet: u32) -> Place {
+    unsafe { c::sheets_panel_read(store.as_ptr(), store.len(), revision, sheet) }
+}
+
+#[cfg(not(feature = "before-w9"))]
+pub fn release(store: &mut [u8], revision: u32, seat: u32, stamp: u32) -> Answer {
+    unsafe { c::sheets_release(store.as_mut_ptr(), store.len(), revision, seat, stamp) }
+}
+
 pub fn show(store: &[u8], copy: &[u8], sheet: u32) -> Place {
     unsafe { c::sheets_show(store.as_ptr(), store.len(), copy.as_ptr(), copy.len(), sheet) }
 }

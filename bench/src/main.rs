@@ -4,6 +4,8 @@ mod commit;
 mod engine;
 mod lists;
 mod make;
+#[cfg(not(feature = "before-w9"))]
+mod panel;
 mod rival;
 mod script;
 #[cfg(feature = "sqlite")]
@@ -66,14 +68,22 @@ fn broken(bytes: &[u8]) -> Vec<u8> {
 }
 
 fn accept() {
-    for (kind, bytes) in [
+    let mut stores = vec![
         ("ordinary", make::ordinary(4096)),
         ("ordinary with a tail", make::with_tail(4096)),
         ("nearly empty", make::nearly_empty(4096)),
         ("most copies", make::worst(4096)),
         ("most compared, to the last byte", make::compared(4096, 479)),
         ("most compared, unlike in the first byte", make::compared(4096, 0)),
-    ] {
+    ];
+    if cfg!(not(feature = "before-w9")) {
+        stores.extend([
+            ("ordinary, each revision released", make::with_releases(4096, 4, 1)),
+            ("smallest commits, each released at once", make::released_at_once(4096)),
+            ("smallest commits, all released behind them", make::released_behind(4096, 0)),
+        ]);
+    }
+    for (kind, bytes) in stores {
         let opened = store::open(&bytes).expect("the maker lays out a history");
         agreed(&bytes, opened);
         println!("{kind}: {} commits, {} blocks used", opened.last, opened.used);
@@ -95,6 +105,8 @@ fn accept() {
         let t = best(400, &mut [("", Box::new(move || keep(engine::read(black_box(&bytes), 0, 0))))]);
         println!("acceptance a block, of {blocks} blocks: {:.0} ns", t[0] / blocks as f64);
     }
+    #[cfg(not(feature = "before-w9"))]
+    panel::accept_a_block();
 }
 
 /// A store of 4,096 blocks, and the sums of all of them: the engine's (the last two checks are wrong, so that it does nothing else, and leaves out the last block), each form in Rust, zlib's.
@@ -354,6 +366,10 @@ fn main() {
     #[cfg(not(feature = "before-w7"))]
     if wanted("turns") {
         turn::calls();
+    }
+    #[cfg(not(feature = "before-w9"))]
+    if wanted("panel") {
+        panel::calls();
     }
     if wanted("lists") {
         lists::sizes();

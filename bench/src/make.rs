@@ -1,4 +1,4 @@
-//! Stores to measure on, laid out by hand as document 01 says.
+//! Stores to measure on, laid out by hand as document 01 and W9 say.
 
 use crate::store::{seal, BLOCK};
 
@@ -91,6 +91,16 @@ impl Maker {
         seal(b);
         first
     }
+
+    /// Writes the release of revision r.
+    pub fn release(&mut self, r: usize, seat: u8, stamp: u32) {
+        let b = self.block();
+        b[0] = 6;
+        b[4..6].copy_from_slice(&(r as u16).to_le_bytes());
+        b[6] = seat;
+        b[8..12].copy_from_slice(&stamp.to_le_bytes());
+        seal(b);
+    }
 }
 
 /// A small generator of numbers, seeded.
@@ -126,13 +136,18 @@ pub fn ordinary(blocks: usize) -> Vec<u8> {
 
 /// The same, with at least `room` blocks left.
 pub fn with_room(blocks: usize, room: usize) -> Vec<u8> {
-    history(blocks, room).store
+    history(blocks, room, |_| false).store
+}
+
+/// The same, with each revision that is a multiple of `every` released right after its commit.
+pub fn with_releases(blocks: usize, room: usize, every: usize) -> Vec<u8> {
+    history(blocks, room, |r| r % every == 0).store
 }
 
 /// The same, with the longest tail: 32 contents of the next revision, and a block with a wrong check.
 pub fn with_tail(blocks: usize) -> Vec<u8> {
     let mut rng = Rng(19);
-    let mut m = history(blocks, 33);
+    let mut m = history(blocks, 33, |_| false);
     for _ in 0..32 {
         m.content(m.last + 1, &rng.sheet());
     }
@@ -147,7 +162,7 @@ pub fn nearly_empty(blocks: usize) -> Vec<u8> {
     m.store
 }
 
-fn history(blocks: usize, room: usize) -> Maker {
+fn history(blocks: usize, room: usize, released: impl Fn(usize) -> bool) -> Maker {
     let mut rng = Rng(7);
     let mut m = Maker::new(blocks);
     let mut present = [false; 32];
@@ -164,8 +179,38 @@ fn history(blocks: usize, room: usize) -> Maker {
             }
         }
         m.commit(1, 7, &changes);
+        if released(m.last) && m.room() > room {
+            m.release(m.last, 1, 7);
+        }
     }
     m
+}
+
+/// The smallest commits: sheet 0 in the first, then one block each, which copies it to sheet 1 or deletes that, an even number of them; `then` after each. Half of the blocks
+/// are left for releases.
+fn smallest(blocks: usize, then: fn(&mut Maker)) -> Maker {
+    let mut m = Maker::new(blocks);
+    let first = m.commit(1, 7, &[add(0, b"0")]) as u16;
+    then(&mut m);
+    for r in 2..=(blocks - 2) / 4 * 2 {
+        m.commit(1, 7, &[if r % 2 == 0 { copy(1, 0, 1, first) } else { delete(1) }]);
+        then(&mut m);
+    }
+    m
+}
+
+/// Half releases: the smallest commits, each released right after it.
+pub fn released_at_once(blocks: usize) -> Vec<u8> {
+    smallest(blocks, |m| m.release(m.last, 1, 7)).store
+}
+
+/// The smallest commits, and behind them the releases of all but the first `left` of them, the newest first: with none left, as full of releases as a store can be.
+pub fn released_behind(blocks: usize, left: usize) -> Vec<u8> {
+    let mut m = smallest(blocks, |_| ());
+    for r in (left + 1..=m.last).rev() {
+        m.release(r, 1, 7);
+    }
+    m.store
 }
 
 /// Sheets 0 to `sheets` - 1 in the first commit, then one of them in each commit, until `used` blocks are in use or one less; `room` blocks left. The sheet

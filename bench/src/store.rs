@@ -1,4 +1,4 @@
-//! An independent version of the checks of document 01, section "Blocks", with W5's tail, in plain Rust: what the engine's acceptance is held to for speed and for its answers.
+//! An independent version of the checks of document 01, section "Blocks", with W5's tail and W9's releases, in plain Rust: what the engine's acceptance is held to for speed and for its answers.
 //! It shares nothing with the engine.
 
 use crate::sums;
@@ -44,6 +44,7 @@ fn shaped(b: &[u8]) -> bool {
                 })
                 && zero(&b[16 + 8 * m..508])
         }
+        6 => zero(&b[1..4]) && b[7] == 0 && zero(&b[12..508]),
         _ => false,
     }
 }
@@ -89,6 +90,8 @@ fn laid_out(store: &[u8], n: usize) -> Option<Opened> {
     // a row of 32 block numbers for each tree
     let mut table: Vec<[u16; 32]> = Vec::with_capacity(64.min(n));
     table.push([0; 32]);
+    // the revisions that are released
+    let mut released = [false; 4096];
     let mut first = 1;
     for p in 1..n {
         let b = block(p);
@@ -104,6 +107,14 @@ fn laid_out(store: &[u8], n: usize) -> Option<Opened> {
             3 => {
                 let row = commit(store, b, first, p, &table)?;
                 table.push(row);
+                first = p + 1;
+            }
+            6 => {
+                let r = two(b, 4);
+                if p != first || !(1..table.len()).contains(&r) || released[r] || !(1..=4).contains(&b[6]) {
+                    return None;
+                }
+                released[r] = true;
                 first = p + 1;
             }
             _ => return None,
@@ -173,14 +184,13 @@ pub fn find(store: &[u8], used: usize, r: usize, sheet: usize) -> Option<(usize,
 /// The last commit up to r that named sheet i: the block that its change points to, 0 for a delete, and its revision.
 #[inline(always)]
 pub fn naming(store: &[u8], used: usize, r: usize, sheet: usize) -> Option<(usize, usize)> {
-    // the first block after commit r: the revisions that blocks carry rise
+    // the first content or commit block after commit r: the revisions that these carry rise, and releases stand behind the commit before them
     let (mut lo, mut hi) = (1, used);
     while lo < hi {
         let mid = (lo + hi) / 2;
-        if two(&store[mid * BLOCK..], 4) <= r {
-            lo = mid + 1;
-        } else {
-            hi = mid;
+        match (lo..=mid).rev().find(|&p| store[p * BLOCK] != 6) {
+            Some(p) if two(&store[p * BLOCK..], 4) > r => hi = p,
+            _ => lo = mid + 1,
         }
     }
     for p in (1..lo).rev() {
