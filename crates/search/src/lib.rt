@@ -96,11 +96,14 @@ fn bound_among_marks(store: &[u8], n: usize, used: usize, r: usize) -> usize
     lo
 }
 
-// The same. Where marks did not mislead the plain halving, the block before its end is commit r, and no other block is.
+// The same. Before revision 1 there is the label alone. Where marks did not mislead the plain halving, the block before its end is commit r, and no other block is.
 fn bound(store: &[u8], n: usize, used: usize, r: usize) -> usize
     requires { ⌜ Accepted (now store) n used × (r ≤ last (storeHistory (now store))) ⌝ }
     ensures { λ x. ⌜ Bound (blocksOf used (now (store .entry))) used r x ⌝ }
 {
+    if r == 0 {
+        return 1;
+    }
     let p = halved(store, used, r);
     let a = (p - 1) * 512;
     let e = a + 512;

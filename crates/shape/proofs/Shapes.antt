@@ -1,7 +1,7 @@
 -- The shape of a block of each kind as a chain of tests on its bytes.
 -- Assumes nothing.
 use Prim.Native.Nat.{_%_, _*_, _+_, _-_, _/_, _<_, _≤_, suc, zero, ℕ}
-use mathlib.Core.Bool.{Bool, _&&_, true}
+use mathlib.Core.Bool.{Bool, _&&_, false, true}
 use mathlib.Core.List.{List, [], _∷_}
 use mathlib.Core.Logic.{inl, inr}
 use mathlib.Core.Path.{_∙_, _≡_, ap, refl, subst, sym}
@@ -12,7 +12,7 @@ use lib.Dec.{T, eqb, leb}
 use lib.ListN.{List·getD-eq-default, drop, getD, length, length-drop, take}
 use lib.Seq.{drop-drop, getD-drop}
 use Rattle.block.proofs.Parts.{first-sixteen}
-use Rattle.block.proofs.Says.{Says, and-true, bool-alike, eq-or, says-alike, says-and, says-eq, says-le, true-and}
+use Rattle.block.proofs.Says.{Says, and-true, bool-alike, eq-or, says-alike, says-and, says-eq, says-false, says-le, true-and}
 use Rattle.block.specs.Field.{fourAt, twoAt}
 use Rattle.block.specs.Lists.{All, allFrom, same}
 use Rattle.model.specs.Blocks.{Block, FitsLine, commit, fieldsOf, fitsBlock, linesOf, mark, parse, parseLines}
@@ -215,6 +215,12 @@ module _ (l : List ℕ) (size : length l ≡ 512) where
       nought : (i : ℕ) → _≡_ {A = ℕ} (getD (0 ∷ []) i 0) 0
       nought zero = refl
       nought (suc i) = refl
+
+  -- no block has another first byte above 3
+  pub none-shaped : 3 < getD l 0 0 → (getD l 0 0 ≡ 6 → ⊥) → shaped fieldsOf parse fitsBlock l ≡ false
+  none-shaped h n₆ =
+      blank-shaped (λ e. omega arith) (λ e. omega arith) (λ e. omega arith) n₆
+      ∙ says-false (says-zeros l 0 508) (λ z. omega (arith, z 0 (omega arith) (omega arith)))
 
   module _ (bytes : (i : ℕ) → getD l i 0 < 256) (kind : getD l 0 0 ≡ 6) where
     abbrev release : Block

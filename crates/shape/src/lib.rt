@@ -134,11 +134,25 @@ fn release_shape(s: &[u8]) -> bool
     zeros(s, 12, 508)
 }
 
-// Whether a block has the shape of what its first byte says.
+// Whether a block whose first byte is above 3 has the shape of a mark. No other block has such a first byte.
+fn mark_shape(s: &[u8]) -> bool
+    requires { ⌜ (length (now s) ≡ 512) × (3 < getD (now s) 0 0) ⌝ }
+    ensures { λ r. ⌜ r ≡ shaped fieldsOf parse fitsBlock (now (s .entry)) ⌝ }
+{
+    if s[0] != 6 {
+        return false;
+    }
+    release_shape(s)
+}
+
+// Whether a block has the shape of what its first byte says. Marks stand apart: of four tests in a row the compiler makes a jump through a table, which is slower.
 pub fn shape(s: &[u8]) -> bool
     requires { ⌜ length (now s) ≡ 512 ⌝ }
     ensures { λ r. ⌜ r ≡ shaped fieldsOf parse fitsBlock (now (s .entry)) ⌝ }
 {
+    if 3 < s[0] {
+        return mark_shape(s);
+    }
     if s[0] == 1 {
         return label_shape(s);
     }
@@ -147,9 +161,6 @@ pub fn shape(s: &[u8]) -> bool
     }
     if s[0] == 3 {
         return commit_shape(s);
-    }
-    if s[0] == 6 {
-        return release_shape(s);
     }
     zeros(s, 0, 508)
 }
