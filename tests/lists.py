@@ -555,15 +555,29 @@ def to_release(rng, m):
     return ('release', rng.randint(1, 4), revision, by, rng.choice([0, 2 ** 32 - 1, rng.getrandbits(32)]))
 
 
+def telling(m, done):
+    """Readings of a panel that tell the greatest released revision from an older one and from R itself: of a sheet that a released tree lacks and an older released one has, and
+    of one that a released tree has and the last tree before the next release lacks."""
+    readings, older, order = [], set(), sorted(done)
+    for r, end in zip(order, [*(q - 1 for q in order[1:]), m.last()]):
+        tree = set(m.tree(r))
+        readings += ((r, i) for i in sorted(older - tree))
+        readings += ((end, i) for i in sorted(tree - set(m.tree(end))))
+        older |= tree
+    return readings
+
+
 def to_panel(rng, m, done):
-    """A revision, mostly about a released one, and a sheet that a commit named: one that went or changed since the release, or any."""
+    """A reading that tells. Or a revision, mostly about a released one, and a sheet that a commit named: one that went or changed since the release, if there is any."""
     last, named = m.last(), sorted({i for _, _, changes in m.history for i in changes})
+    if rng.random() < 0.3 and (readings := telling(m, done)):
+        return rng.choice(readings)
     revision = max(0, rng.choice(done) + rng.choice([-1, 0, 0, 1, 2])) if done and rng.random() < 0.5 else rng.choice([0, *[last, rng.randint(0, last)] * 4])
     released, tree = (m.tree(r) for r in (max((r for r in done if r <= revision), default=0), revision))
     gone, other = [i for i in released if i not in tree], [i for i in tree if tree[i] != released.get(i)]
     if rng.random() < 0.08:
         return rng.choice([(last + 1, named[0]), (65536 + revision, named[0]), (revision, 32), (revision, 256 + named[0])])
-    return revision, rng.choice(rng.choice([gone, other, named]) or named)
+    return revision, rng.choice(rng.choice([some for some in (gone, other, named) if some]))
 
 
 def to_change(rng, m):
