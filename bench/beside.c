@@ -95,7 +95,7 @@ static void want(int holds, const char *what) {
     }
 }
 
-/* Commits of one to three sheets of random bytes until `room` blocks are left or fewer. */
+/* Commits of one to three sheets of random bytes, as long as another one leaves `room` blocks. The used blocks. */
 static size_t fill(size_t room) {
     size_t used = 1;
     want(before_sheets_create_store(store, len).refusal == 0, "create of the store");
