@@ -1,12 +1,12 @@
 -- The search back, one law for each way through a turn.
 -- Assumes nothing.
 use Prim.Native.Nat.{_*_, _+_, _-_, _<_, _≤_, suc, zero, ℕ}
-use mathlib.Core.Bool.{Bool, _&&_, true}
+use mathlib.Core.Bool.{Bool, _&&_, cond, true}
 use mathlib.Core.List.{List}
-use mathlib.Core.Path.{_∙_, _≡_, ap, ap₂, refl, subst, sym}
+use mathlib.Core.Path.{_∙_, _≡_, ap, refl, subst, sym}
 use native.Mathlib.Omega.{arith}
-use borrow.Author.Tests.{eq-eqb, ne-eqb}
-use lib.Dec.{T}
+use borrow.Author.Tests.{eq-eqb, le-ltb, lt-ltb, ne-eqb}
+use lib.Dec.{T, ltb}
 use lib.ListN.{drop, getD, take}
 use lib.Seq.{drop-drop}
 use Rattle.block.proofs.Says.{and-true}
@@ -49,38 +49,50 @@ few-changes n p s e h k =
 
 -- ---- the search
 
-pub back-none : (bs : List Block) (i p : ℕ) → p ≤ 0 → back bs i p ≡ nowhere
+pub back-none : (R : ℕ) (bs : List Block) (i p : ℕ) → p ≤ 0 → back R bs i p ≡ nowhere
 unfolding back
-back-none bs i zero h = refl
-back-none bs i (suc p) h = absurd (omega arith)
+back-none R bs i zero h = refl
+back-none R bs i (suc p) h = absurd (omega arith)
 
-back-step : (bs : List Block) (i p : ℕ) → 0 < p → back bs i p ≡ inBlock i (getD bs (p - 1) blank) (back bs i (p - 1))
+back-step : (R : ℕ) (bs : List Block) (i p : ℕ) → 0 < p → back R bs i p ≡ inBlock R i (getD bs (p - 1) blank) (back R bs i (p - 1))
 unfolding back
-back-step bs i zero h = absurd (omega arith)
-back-step bs i (suc p) h = let e : p ≡ suc p - 1 = omega arith in ap (λ (x : ℕ). inBlock i (getD bs x blank) (back bs i x)) e
+back-step R bs i zero h = absurd (omega arith)
+back-step R bs i (suc p) h = let e : p ≡ suc p - 1 = omega arith in ap (λ (x : ℕ). inBlock R i (getD bs x blank) (back R bs i x)) e
 
-other-block : (i : ℕ) (b : Block) (older : Found) → (kindOf b ≡ 3 → ⊥) → inBlock i b older ≡ older
-other-block i label older n = refl
-other-block i (content r b) older n = refl
-other-block i (commit r s t ls) older n = absurd (n refl)
-other-block i (mark m) older n = refl
-other-block i blank older n = refl
+other-block : (R i : ℕ) (b : Block) (older : Found) → (kindOf b ≡ 3 → ⊥) → inBlock R i b older ≡ older
+other-block R i label older n = refl
+other-block R i (content r b) older n = refl
+other-block R i (commit r s t ls) older n = absurd (n refl)
+other-block R i (mark m) older n = refl
+other-block R i blank older n = refl
 
-module _ (n : ℕ) (s : List ℕ) (i p : ℕ) (some : 0 < p) (h : p ≤ n) where
-  pub back-skip : (kindOf (parse (lent s (p - 1))) ≡ 3 → ⊥) → back (blocksOf n s) i p ≡ back (blocksOf n s) i (p - 1)
+module _ (R n : ℕ) (s : List ℕ) (i p : ℕ) (some : 0 < p) (h : p ≤ n) where
+  pub back-skip : (kindOf (parse (lent s (p - 1))) ≡ 3 → ⊥) → back R (blocksOf n s) i p ≡ back R (blocksOf n s) i (p - 1)
   back-skip k =
-      back-step (blocksOf n s) i p some
-      ∙ ap (λ (b : Block). inBlock i b (back (blocksOf n s) i (p - 1))) (block-at n (p - 1) s (omega arith))
-      ∙ other-block i (parse (lent s (p - 1))) (back (blocksOf n s) i (p - 1)) k
+      back-step R (blocksOf n s) i p some
+      ∙ ap (λ (b : Block). inBlock R i b (back R (blocksOf n s) i (p - 1))) (block-at n (p - 1) s (omega arith))
+      ∙ other-block R i (parse (lent s (p - 1))) (back R (blocksOf n s) i (p - 1)) k
 
-  pub back-into : (r m : ℕ) → kindOf (parse (lent s (p - 1))) ≡ 3 → r ≡ twoAt (lent s (p - 1)) 4 → m ≡ twoAt (lent s (p - 1)) 2
-      → back (blocksOf n s) i p ≡ hitIn i r (left (lent s (p - 1)) 16 m 0) (back (blocksOf n s) i (p - 1))
-  back-into r m k er em =
-      let l = lent s (p - 1) in
-      back-step (blocksOf n s) i p some
-      ∙ ap (λ (b : Block). inBlock i b (back (blocksOf n s) i (p - 1))) (block-at n (p - 1) s (omega arith) ∙ parse-commit l k)
-      ∙ ap₂ (λ (x y : ℕ). hitIn i x (parseLines y (drop 16 l)) (back (blocksOf n s) i (p - 1))) (sym er) (sym em)
-      ∙ ap (λ (x : List Line). hitIn i r x (back (blocksOf n s) i (p - 1))) (sym (left-all l 16 m))
+  module _ (r : ℕ) (k : kindOf (parse (lent s (p - 1))) ≡ 3) (er : r ≡ twoAt (lent s (p - 1)) 4) where
+    back-commit : back R (blocksOf n s) i p
+        ≡ cond (ltb R r) (back R (blocksOf n s) i (p - 1)) (hitIn i r (parseLines (twoAt (lent s (p - 1)) 2) (drop 16 (lent s (p - 1)))) (back R (blocksOf n s) i (p - 1)))
+    back-commit =
+        let l = lent s (p - 1) in
+        back-step R (blocksOf n s) i p some
+        ∙ ap (λ (b : Block). inBlock R i b (back R (blocksOf n s) i (p - 1))) (block-at n (p - 1) s (omega arith) ∙ parse-commit l k)
+        ∙ ap (λ (x : ℕ). cond (ltb R x) (back R (blocksOf n s) i (p - 1)) (hitIn i x (parseLines (twoAt l 2) (drop 16 l)) (back R (blocksOf n s) i (p - 1)))) (sym er)
+
+    -- a commit after R
+    pub back-later : R < r → back R (blocksOf n s) i p ≡ back R (blocksOf n s) i (p - 1)
+    back-later g = back-commit ∙ rw (lt-ltb R r g) refl
+
+    pub back-into : (m : ℕ) → r ≤ R → m ≡ twoAt (lent s (p - 1)) 2 → back R (blocksOf n s) i p ≡ hitIn i r (left (lent s (p - 1)) 16 m 0) (back R (blocksOf n s) i (p - 1))
+    back-into m g em =
+        let l = lent s (p - 1) in
+        back-commit
+        ∙ rw (le-ltb R r g) refl
+        ∙ ap (λ (y : ℕ). hitIn i r (parseLines y (drop 16 l)) (back R (blocksOf n s) i (p - 1))) (sym em)
+        ∙ ap (λ (x : List Line). hitIn i r x (back R (blocksOf n s) i (p - 1))) (sym (left-all l 16 m))
 
 -- change by change
 module _ (l : List ℕ) (i r m j : ℕ) (older : Found) where

@@ -26,10 +26,11 @@ use Rattle.laws.proofs.Store.{taken-holds}
 use Rattle.laws.proofs.Tables.{slot, tables-trees, trailOf}
 use Rattle.laws.proofs.Used.{own-bytes, own-room}
 use Rattle.laws.proofs.Writing.{blank-rest, front-blanks, holds-blocks, no-blank, some-front}
+use Rattle.search.proofs.Halving.{back-bound, backAll, bound-of}
 use Rattle.search.proofs.Naming.{named-last}
 use Rattle.search.proofs.Revisions.{passed, same-history, same-tables}
 use Rattle.search.proofs.Sought.{sought}
-use Rattle.search.specs.Find.{Accepted, Bound, back, foundIn, spanOf}
+use Rattle.search.specs.Find.{Accepted, Bound, back, eraAt, foundIn, spanOf}
 use Rattle.store.proofs.Blocks.{bytes-in}
 use Rattle.store.proofs.Opening.{open-accepted}
 use Rattle.store.specs.Opened.{openOf}
@@ -68,15 +69,20 @@ module _ (s : Bytes) (n used : ℕ) (A : Accepted s n used) where
   all-ok : T (ok (storeBlocks s))
   all-ok = lays-accepted (storeBlocks s) (storeHistory s) (holds-blocks (blockCount s) (bareOf s) (storeHistory s) (taken-holds s (A .clear)) .lays) .0
 
-  -- what the search back finds
-  pub found-is : (r b i : ℕ) → Bound (blocksOf used s) used r b → r ≤ last (storeHistory s) → i < 32 → back (blocksOf used s) i b ≡ foundIn s r i
+  found-is : (r b i : ℕ) → Bound (blocksOf used s) used r b → r ≤ last (storeHistory s) → i < 32 → backAll (blocksOf used s) i b ≡ foundIn s r i
   found-is r b i G h g =
       let P = passed s n used A in
       let q = same-history s n used A in
       let h' : r ≤ length (historyOf used s) = subst (λ (x : History). r ≤ length x) (sym q) h in
-      let x : back (blocksOf used s) i b .block ≡ blockUsed s r i = sought s used used r b i P G h' g ∙ ap (λ (t : List Table). getD (getD t r []) i 0) (same-tables s n used A) in
-      let y : back (blocksOf used s) i b .revision ≡ namer (storeHistory s) r i = named-last s used used r b i P G h' g ∙ ap (λ (x : History). namer x r i) q in
+      let x : backAll (blocksOf used s) i b .block ≡ blockUsed s r i = sought s used used r b i P G h' g ∙ ap (λ (t : List Table). getD (getD t r []) i 0) (same-tables s n used A) in
+      let y : backAll (blocksOf used s) i b .revision ≡ namer (storeHistory s) r i = named-last s used used r b i P G h' g ∙ ap (λ (x : History). namer x r i) q in
       λ j. record { block = x j; revision = y j }
+
+  -- what the search back finds
+  pub found-back : (r e i : ℕ) → 1 ≤ e → e ≤ used → r < eraAt (blocksOf used s) e → r ≤ last (storeHistory s) → i < 32 → back r (blocksOf used s) i e ≡ foundIn s r i
+  found-back r e i low high l h g =
+      let w = bound-of s n used A r e low high l in
+      back-bound s n used A r i (w .0) (w .1) e (w .2) high ∙ found-is r (w .0) i (w .1) h g
 
   -- a used block holds what it is read as
   pub block-bytes : (p : ℕ) → p < usedOf s → (p < blockCount s) × (bytesAt (blocksOf (blockCount s) s) p ≡ bytesAt (storeBlocks s) p)

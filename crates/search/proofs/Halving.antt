@@ -1,53 +1,51 @@
--- The halving that finds the bound: where the marks before the next dated block are passed over, what that block states tells the era of them all.
+-- Where the halving ends: at or behind the bound of r. From there the way back over the commits up to r finds what the way back from the bound over all of them finds.
 -- Assumes nothing.
-use Prim.Native.Nat.{_*_, _+_, _-_, _<_, _≤_, ℕ}
+use Prim.Native.Nat.{_*_, _+_, _-_, _<_, _≤_, suc, zero, ℕ}
 use mathlib.Core.List.{List}
 use mathlib.Core.Logic.{inl, inr}
-use mathlib.Core.Path.{_∙_, _≡_, ap, subst, sym}
+use mathlib.Core.Path.{_∙_, _≡_, ap, refl, subst, sym}
 use native.Mathlib.Omega.{arith}
+use borrow.Author.Tests.{le-ltb, lt-ltb}
 use lib.ListN.{getD, length}
-use Rattle.block.proofs.Says.{eq-or}
-use Rattle.block.specs.Buffer.{blockAt}
+use Rattle.block.proofs.Says.{lt-or-ge}
 use Rattle.block.specs.Field.{twoAt}
-use Rattle.model.specs.Blocks.{Block, blank, parse}
+use Rattle.model.specs.Blocks.{Block, blank, commit, content, label, mark, parse}
 use Rattle.model.specs.History.{Bytes, History, last}
 use Rattle.model.specs.Store.{blocksOf, storeHistory}
-use Rattle.laws.proofs.Parts.{lent-block}
-use Rattle.search.proofs.Revisions.{Passed, after-label, count-marks, count-more, era-commit, era-end, passed, rev-at, same-history, used-low}
-use Rattle.search.specs.Find.{Accepted, Bound, Dated, eraAt}
+use Rattle.search.proofs.Revisions.{Passed, after-label, count-more, era-end, era-mark, era-stated, passed, rev-at, rev-low, same-history, stating, used-low}
+use Rattle.search.specs.Find.{Accepted, Bound, back, eraAt, hitIn, inBlock, nowhere}
+use Rattle.search.specs.declared.Found.{Found}
 use Rattle.shape.specs.Shape.{kindOf}
 use Rattle.store.proofs.Blocks.{block-at, lent}
 
--- ---- the walk to the next dated block
+-- ---- the way back over all commits
 
--- the blocks from `start` on and before block q are marks
-abbrev pub MarksTo : Bytes → ℕ → ℕ → Type 0
-MarksTo s start q = (p : ℕ) → start ≤ p → p < q → kindOf (parse (blockAt s p)) ≡ 4
+abbrev pub inAny : ℕ → Block → Found → Found
+inAny i label older = older
+inAny i (content r b) older = older
+inAny i (commit r seat stamp ls) older = hitIn i r ls older
+inAny i (mark m) older = older
+inAny i blank older = older
 
-pub one-mark : (s : Bytes) (start q : ℕ) → MarksTo s start q → kindOf (parse (lent s q)) ≡ 4 → MarksTo s start (q + 1)
-one-mark s start q m e p h g =
-    elim (eq-or p q) [
-      | inl d ↦ ap (λ (x : ℕ). kindOf (parse (blockAt s x))) d ∙ ap (λ (x : List ℕ). kindOf (parse x)) (sym (lent-block s q)) ∙ e
-      | inr o ↦ m p h (omega arith)
-    ]
+unfoldable pub backAll : List Block → ℕ → ℕ → Found
+backAll bs i zero = nowhere
+backAll bs i (suc b) = inAny i (getD bs b blank) (backAll bs i b)
 
-pub here-dated : (s : Bytes) (start stop q : ℕ) → start ≤ q → q < stop → MarksTo s start q → (kindOf (parse (lent s q)) ≡ 4 → ⊥) → Dated s start stop q
-here-dated s start stop q h g m n =
-    record { low = h; high = omega arith; passed = m; dated = λ t e. n (ap (λ (x : List ℕ). kindOf (parse x)) (lent-block s q) ∙ e) }
+-- a commit after R is passed over
+passed-over : (R i : ℕ) (b : Block) (older : Found) → (kindOf b ≡ 3 → R < stating b) → inBlock R i b older ≡ older
+passed-over R i label older h = refl
+passed-over R i (content r b) older h = refl
+passed-over R i (commit r s t ls) older h = rw (lt-ltb R r (h refl)) refl
+passed-over R i (mark m) older h = refl
+passed-over R i blank older h = refl
 
--- a block that is no mark is its own next dated one
-pub own-dated : (s : Bytes) (p stop : ℕ) → p < stop → (kindOf (parse (lent s p)) ≡ 4 → ⊥) → Dated s p stop p
-own-dated s p stop g n = here-dated s p stop p (omega arith) g (λ q h l. absurd (omega arith)) n
-
--- ---- the halving
-
--- what is known of the interval that is left
-pub record Halved (bs : List Block) (used r lo hi : ℕ) : Type 0 where
-  pub low : 1 ≤ lo
-  pub within : lo ≤ hi
-  pub high : hi ≤ used
-  pub before : (p : ℕ) → 1 ≤ p → p < lo → eraAt bs p ≤ r
-  pub after : r < eraAt bs hi
+-- the others are looked at
+looked-at : (R i : ℕ) (b : Block) (older : Found) → (kindOf b ≡ 3 → stating b ≤ R) → inBlock R i b older ≡ inAny i b older
+looked-at R i label older h = refl
+looked-at R i (content r b) older h = refl
+looked-at R i (commit r s t ls) older h = rw (le-ltb R r (h refl)) refl
+looked-at R i (mark m) older h = refl
+looked-at R i blank older h = refl
 
 era-more : (bs : List Block) (p q : ℕ) → p ≤ q → eraAt bs p ≤ eraAt bs q
 era-more bs p q h = omega (arith, count-more bs p q h)
@@ -56,72 +54,79 @@ module _ (s : Bytes) (n used : ℕ) (A : Accepted s n used) (r : ℕ) where
   P : Passed s used used
   P = passed s n used A
 
-  pub halved-start : r ≤ last (storeHistory s) → Halved (blocksOf used s) used r 1 used
-  halved-start h =
-      record {
-        low = omega arith;
-        within = used-low s used used P;
-        high = omega arith;
-        before = λ p a b. absurd (omega arith);
-        after = era-end s used used P r (subst (λ (x : History). r ≤ last x) (sym (same-history s n used A)) h);
-      }
+  abbrev bs : List Block
+  bs = blocksOf used s
 
-  pub halved-end : (lo hi : ℕ) → Halved (blocksOf used s) used r lo hi → hi ≤ lo → Bound (blocksOf used s) used r lo
-  halved-end lo hi H e =
-      record {
-        low = H .low;
-        high = omega (arith, H .within, H .high);
-        before = H .before;
-        after = λ p h g. omega (arith, H .after, era-more (blocksOf used s) hi p (omega (arith, H .within)));
-      }
+  pub halved-room : (1 ≤ used) × (used ≤ 4_096) × (used * 512 ≤ length s)
+  halved-room = (used-low s used used P, P .few, P .whole)
 
-  pub halved-room : (lo hi : ℕ) → Halved (blocksOf used s) used r lo hi → (hi ≤ 4_096) × (hi * 512 ≤ length s)
-  halved-room lo hi H = (omega (arith, H .high, P .few), omega (arith, H .high, P .whole))
+  -- ---- the halving
 
-  -- only commit r states r and is a commit block
-  pub bound-behind : (p v : ℕ) → p < used → kindOf (parse (lent s p)) ≡ 3 → v ≡ twoAt (lent s p) 4 → v ≡ r → Bound (blocksOf used s) used r (p + 1)
-  bound-behind p v h k ev e =
-      let d : getD (blocksOf used s) p blank ≡ parse (lent s p) = block-at used p s h in
-      let l : 1 ≤ p = after-label s used used P p (ap kindOf d ∙ k) in
-      let w = rev-at s used used P p l h (λ m. absurd (omega (arith, k, m))) in
-      let f = era-commit (blocksOf used s) p (ap kindOf d ∙ k) in
-      record {
-        low = omega arith;
-        high = omega arith;
-        before = λ q g j. omega (arith, w, ev, e, era-more (blocksOf used s) q p (omega arith));
-        after = λ q g j. omega (arith, w, ev, e, f, era-more (blocksOf used s) (p + 1) q g);
-      }
+  pub behind-end : r ≤ last (storeHistory s) → r < eraAt bs used
+  behind-end h = era-end s used used P r (subst (λ (x : History). r ≤ last x) (sym (same-history s n used A)) h)
 
-  module _ (lo hi mid q : ℕ) (H : Halved (blocksOf used s) used r lo hi) (a : lo ≤ mid) (b : mid < hi) (D : Dated s mid hi q) where
-    -- the marks before block q are of its era
-    same-era : eraAt (blocksOf used s) q ≡ eraAt (blocksOf used s) mid
-    same-era =
-        let e : mid + (q - mid) ≡ q = omega (arith, D .low) in
-        ap (eraAt (blocksOf used s)) (sym e)
-        ∙ ap (λ (x : ℕ). 1 + x) (count-marks (blocksOf used s) mid (q - mid)
-        (λ j h g. ap kindOf (block-at used j s (omega (arith, D .high, H .high))) ∙ ap (λ (x : List ℕ). kindOf (parse x)) (lent-block s j) ∙ D .passed j h (omega arith)))
+  pub behind-later : (p v : ℕ) → 1 ≤ p → p < used → v ≡ twoAt (lent s p) 4 → r < v → r < eraAt bs p
+  behind-later p v h g e l = omega (arith, rev-low s used used P p h g)
 
-    upper : r < eraAt (blocksOf used s) q → Halved (blocksOf used s) used r lo mid
-    upper h = record { low = H .low; within = a; high = omega (arith, H .high); before = H .before; after = omega (arith, same-era) }
+  -- ---- one block back
 
-    -- nothing but marks
-    pub halved-marks : hi ≤ q → Halved (blocksOf used s) used r lo mid
-    halved-marks h = let e : hi ≡ q = omega (arith, D .high) in upper (subst (λ (x : ℕ). r < eraAt (blocksOf used s) x) e (H .after))
+  module _ (p : ℕ) (h : 1 < p) (g : p ≤ used) (l : r < eraAt bs p) where
+    d : p - 1 + 1 ≡ p
+    d = omega arith
 
-    module _ (h : q < hi) (v : ℕ) (ev : v ≡ twoAt (lent s q) 4) where
-      era-stated : v ≡ eraAt (blocksOf used s) q
-      era-stated =
-          ev ∙ rev-at s used used P q (omega (arith, H .low, D .low)) (omega (arith, H .high)) (λ e. D .dated h (ap (λ (x : List ℕ). kindOf (parse x)) (sym (lent-block s q)) ∙ e))
+    pub behind-mark : kindOf (parse (lent s (p - 1))) ≡ 4 → r < eraAt bs (p - 1)
+    behind-mark k =
+        let e = era-mark bs (p - 1) (ap kindOf (block-at used (p - 1) s (omega arith)) ∙ k) in
+        omega (arith, e, ap (eraAt bs) d)
 
-      pub halved-later : r < v → Halved (blocksOf used s) used r lo mid
-      halved-later g = upper (omega (arith, era-stated))
+    pub bound-here : (v : ℕ) → (kindOf (parse (lent s (p - 1))) ≡ 4 → ⊥) → v ≡ twoAt (lent s (p - 1)) 4 → v ≤ r → Bound bs used r p
+    bound-here v k e m =
+        let w = rev-at s used used P (p - 1) (omega arith) (omega arith) k in
+        record {
+          low = omega arith;
+          high = g;
+          before = λ q x y. omega (arith, w, era-more bs q (p - 1) (omega arith));
+          after = λ q x y. omega (arith, era-more bs p q x);
+        }
 
-      pub halved-earlier : v ≤ r → Halved (blocksOf used s) used r (q + 1) hi
-      halved-earlier g =
-          record {
-            low = omega arith;
-            within = omega arith;
-            high = H .high;
-            before = λ p k l. omega (arith, era-stated, era-more (blocksOf used s) p q (omega arith));
-            after = H .after;
-          }
+  pub bound-first : r < eraAt bs 1 → Bound bs used r 1
+  bound-first l = record { low = omega arith; high = used-low s used used P; before = λ q x y. absurd (omega arith); after = λ q x y. omega (arith, era-more bs 1 q x) }
+
+  -- ---- the bound stands there or before
+
+  pub bound-of : (p : ℕ) → 1 ≤ p → p ≤ used → r < eraAt bs p → (b : ℕ) × Bound bs used r b × (b ≤ p)
+  bound-of zero h g l = absurd (omega arith)
+  bound-of (suc zero) h g l = (1, bound-first l, omega arith)
+  bound-of (suc (suc p)) h g l =
+      elim (lt-or-ge r (eraAt bs (suc p))) [
+        | inl e ↦ (let w = bound-of (suc p) (omega arith) (omega arith) e in (w .0, w .1, omega (arith, w .2)))
+        | inr o ↦ (
+          suc (suc p),
+          record { low = h; high = g; before = λ q x y. omega (arith, o, era-more bs q (suc p) (omega arith)); after = λ q x y. omega (arith, era-more bs (suc (suc p)) q x) },
+          omega arith,
+        )
+      ]
+
+  commit-era : (p : ℕ) → p < used → kindOf (getD bs p blank) ≡ 3 → (1 ≤ p) × (stating (getD bs p blank) ≡ eraAt bs p)
+  commit-era p g k = let h = after-label s used used P p k in (h, era-stated s used used P p h g (λ e. absurd (omega (arith, k, e))))
+
+  module _ (i b : ℕ) (G : Bound bs used r b) where
+    back-over : (k : ℕ) → b + k ≤ used → back r bs i (b + k) ≡ back r bs i b
+    unfolding back
+    back-over zero h = let e : b + 0 ≡ b = omega arith in ap (back r bs i) e
+    back-over (suc k) h =
+        let e : b + suc k ≡ suc (b + k) = omega arith in
+        ap (back r bs i) e
+        ∙ passed-over r i (getD bs (b + k) blank) (back r bs i (b + k)) (λ c. let w = commit-era (b + k) (omega arith) c in omega (arith, w .1, G .after (b + k) (omega arith) (omega arith)))
+        ∙ back-over k (omega arith)
+
+    back-all : (p : ℕ) → p ≤ b → back r bs i p ≡ backAll bs i p
+    unfolding back backAll
+    back-all zero h = refl
+    back-all (suc p) h =
+        looked-at r i (getD bs p blank) (back r bs i p) (λ c. let w = commit-era p (omega (arith, G .high)) c in omega (arith, w .1, G .before p (w .0) (omega arith)))
+        ∙ ap (inAny i (getD bs p blank)) (back-all p (omega arith))
+
+    -- THE STATEMENT
+    pub back-bound : (e : ℕ) → b ≤ e → e ≤ used → back r bs i e ≡ backAll bs i b
+    back-bound e h g = let d : b + (e - b) ≡ e = omega arith in ap (back r bs i) (sym d) ∙ back-over (e - b) (omega arith) ∙ back-all b (omega arith)

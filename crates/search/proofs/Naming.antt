@@ -20,8 +20,9 @@ use Rattle.model.specs.Store.{blocksOf, historyOf}
 use Rattle.laws.proofs.Acceptance.{no-change, places}
 use Rattle.laws.proofs.Puts.{length-puts}
 use Rattle.laws.proofs.Trees.{namer-append}
+use Rattle.search.proofs.Halving.{backAll, inAny}
 use Rattle.search.proofs.Revisions.{Passed, after-mark, counted, first-read, kinds, okAll, opened, states, stating, used-few, used-is, usedIn}
-use Rattle.search.specs.Find.{Bound, back, count, hitIn, inBlock}
+use Rattle.search.specs.Find.{Bound, count, hitIn}
 use Rattle.search.specs.declared.Found.{Found}
 use Rattle.shape.specs.Shape.{kindOf}
 
@@ -110,7 +111,7 @@ read-take look (blank ∷ bs) (suc q) a = absurd (omega (arith, a .0))
 -- one block more
 one-more : (look : ℕ → List ℕ) (i : ℕ) → i < 32 → (xs : List Block) (x : Block) (older : Found) → Solid xs → 2 ≤ kindOf x
     → ((kindOf x ≡ 4 → ⊥) → stating x ≡ 1 + count xs)
-    → older .revision ≡ namerFrom 0 0 (readFrom look xs) i → inBlock i x older .revision ≡ namerFrom 0 0 (readFrom look (xs ++ (x ∷ []))) i
+    → older .revision ≡ namerFrom 0 0 (readFrom look xs) i → inAny i x older .revision ≡ namerFrom 0 0 (readFrom look (xs ++ (x ∷ []))) i
 unfolding readFrom stated
 one-more look i h xs label older a k e w = absurd (omega arith)
 one-more look i h xs (content r b) older a k e w = w ∙ ap (λ (y : History). namerFrom 0 0 y i) (sym (read-snoc look xs (content r b) a ∙ append-nil (readFrom look xs)))
@@ -125,20 +126,20 @@ one-more look i h xs (mark m) older a k e w = w ∙ ap (λ (y : History). namerF
 one-more look i h xs blank older a k e w = absurd (omega arith)
 
 back-names : (look : ℕ → List ℕ) (bs : List Block) → T (okFrom look 1 0 (replicate 32 0 ∷ []) bs) → (i : ℕ) → i < 32 → (b : ℕ) → b ≤ usedIn bs
-    → back (label ∷ bs) i (suc b) .revision ≡ namerFrom 0 0 (readFrom look (take b bs)) i
-unfolding back readFrom
+    → backAll (label ∷ bs) i (suc b) .revision ≡ namerFrom 0 0 (readFrom look (take b bs)) i
+unfolding backAll readFrom
 back-names look bs t i h zero g = refl
 back-names look bs t i h (suc b) g =
     let m : b < length bs = omega (arith, used-few bs) in
     let e = take-suc bs b blank m in
     let k = kinds look 1 0 (replicate 32 0 ∷ []) bs t b (omega arith) in
-    one-more look i h (take b bs) (getD bs b blank) (back (label ∷ bs) i (suc b)) (solid-take look 1 0 (replicate 32 0 ∷ []) bs t b (omega arith)) k
+    one-more look i h (take b bs) (getD bs b blank) (backAll (label ∷ bs) i (suc b)) (solid-take look 1 0 (replicate 32 0 ∷ []) bs t b (omega arith)) k
     (states look 1 0 (replicate 32 0 ∷ []) bs t b (omega arith)) (back-names look bs t i h b (omega arith))
     ∙ ap (λ (x : List Block). namerFrom 0 0 (readFrom look x) i) (sym e)
 
 -- THE STATEMENT: before the bound of r the search finds the revision of the last commit up to r that names the sheet
 pub named-last : (s : List ℕ) (n used r b i : ℕ) → Passed s n used → Bound (blocksOf n s) used r b → r ≤ length (historyOf n s) → i < 32
-    → back (blocksOf n s) i b .revision ≡ namer (historyOf n s) r i
+    → backAll (blocksOf n s) i b .revision ≡ namer (historyOf n s) r i
 unfolding historyOf
 named-last s n used r b i A G last h =
     let q = opened (blocksOf n s) (okAll s n used A) in
@@ -146,8 +147,8 @@ named-last s n used r b i A G last h =
     let look = bytesAt (blocksOf n s) in
     let e : b ≡ suc (b - 1) = omega (arith, G .low) in
     let u : b - 1 ≤ usedIn bs = omega (arith, G .high, used-is s n used A) in
-    ap (λ (x : List Block). back x i b .revision) (q .1)
-    ∙ ap (λ (x : ℕ). back (label ∷ bs) i x .revision) e
+    ap (λ (x : List Block). backAll x i b .revision) (q .1)
+    ∙ ap (λ (x : ℕ). backAll (label ∷ bs) i x .revision) e
     ∙ back-names look bs (q .2) i h (b - 1) u
     ∙ ap (λ (y : History). namerFrom 0 0 y i) (read-take look bs (b - 1) (solid-take look 1 0 (replicate 32 0 ∷ []) bs (q .2) (b - 1) u)
     ∙ ap₂ (λ (x : ℕ) (y : History). take x y) (counted s n used A r last b G) (sym (first-read (blocksOf n s) bs (q .1))))

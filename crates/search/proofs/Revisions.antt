@@ -7,7 +7,7 @@ use mathlib.Core.Logic.{inl, inr}
 use mathlib.Core.Path.{_∙_, _≡_, ap, refl, subst, sym}
 use native.Mathlib.Numerals.{add-one}
 use native.Mathlib.Omega.{arith}
-use lib.Dec.{T, eqb, eqb→eq}
+use lib.Dec.{T, eqb, eqb→eq, leb, ltb, ltb→lt}
 use lib.ListN.{getD, length, length-append, replicate, take}
 use Rattle.block.proofs.Says.{and-true, eq-or}
 use Rattle.block.specs.Field.{twoAt}
@@ -17,7 +17,7 @@ use Rattle.model.specs.Calls.{storeConditions}
 use Rattle.model.specs.Codec.{parts, shaped}
 use Rattle.model.specs.History.{Commit}
 use Rattle.model.specs.Layout.{Table, latest, next}
-use Rattle.model.specs.Log.{Mark, marks, marksOk}
+use Rattle.model.specs.Log.{Mark, marks, marksOk, released}
 use Rattle.model.specs.Pass.{grown, laid, logAll, ok, okFrom, readAll, readFrom, stands, tablesOf}
 use Rattle.model.specs.Store.{blocksOf, front, historyOf, lawful, storeBlocks, storeHistory, usedOf}
 use Rattle.laws.proofs.Conditions.{clear, sized-so}
@@ -26,7 +26,7 @@ use Rattle.laws.proofs.Used.{own-history, own-lawful, own-room, own-tables, own
 use Rattle.search.specs.Find.{Accepted, Bound, count, eraAt}
 use Rattle.shape.specs.Shape.{kindOf}
 use Rattle.store.proofs.Blocks.{block-at, length-blocks, lent}
-use Rattle.store.proofs.PassLaws.{parse-commit, parse-content, parse-low}
+use Rattle.store.proofs.PassLaws.{parse-commit, parse-content, parse-low, parse-mark}
 
 -- how many blocks are used
 abbrev pub usedIn : List Block → ℕ
@@ -110,33 +110,18 @@ count-one bs p = subst (λ (x : ℕ). count (take x bs) ≤ count (take p bs) + 
     one (mark m) = omega arith
     one blank = omega arith
 
--- no commit stands among marks
-pub count-marks : (bs : List Block) (p k : ℕ) → ((j : ℕ) → p ≤ j → j < p + k → kindOf (getD bs j blank) ≡ 4) → count (take (p + k) bs) ≡ count (take p bs)
-count-marks bs p zero h = let e : p + 0 ≡ p = omega arith in ap (λ (x : ℕ). count (take x bs)) e
-count-marks bs p (suc k) h =
-    let e : p + suc k ≡ suc (p + k) = omega arith in
-    let i = count-marks bs p k (λ j l g. h j l (omega arith)) in
-    ap (λ (x : ℕ). count (take x bs)) e ∙ omega (arith, count-next bs (p + k), none (getD bs (p + k) blank) (h (p + k) (omega arith) (omega arith)))
+-- a mark ends no era
+pub era-mark : (bs : List Block) (p : ℕ) → kindOf (getD bs p blank) ≡ 4 → eraAt bs (p + 1) ≡ eraAt bs p
+era-mark bs p e =
+    let w : count (take (p + 1) bs) ≡ count (take (suc p) bs) = ap (λ (x : ℕ). count (take x bs)) (add-one p) in
+    omega (arith, w, count-next bs p, none (getD bs p blank) e)
   where
     none : (b : Block) → kindOf b ≡ 4 → count (b ∷ []) ≡ 0
-    none label e = refl
-    none (content r b) e = refl
-    none (commit r s t ls) e = absurd (omega arith)
-    none (mark m) e = refl
-    none blank e = refl
-
--- a commit block ends its era
-pub era-commit : (bs : List Block) (p : ℕ) → kindOf (getD bs p blank) ≡ 3 → eraAt bs (p + 1) ≡ suc (eraAt bs p)
-era-commit bs p e =
-    let w : count (take (p + 1) bs) ≡ count (take (suc p) bs) = ap (λ (x : ℕ). count (take x bs)) (add-one p) in
-    omega (arith, w, count-next bs p, one (getD bs p blank) e)
-  where
-    one : (b : Block) → kindOf b ≡ 3 → count (b ∷ []) ≡ 1
-    one label h = absurd (omega arith)
-    one (content r b) h = absurd (omega arith)
-    one (commit r s t ls) h = refl
-    one (mark m) h = absurd (omega arith)
-    one blank h = absurd (omega arith)
+    none label h = absurd (omega arith)
+    none (content r b) h = absurd (omega arith)
+    none (commit r s t ls) h = absurd (omega arith)
+    none (mark m) h = refl
+    none blank h = absurd (omega arith)
 
 -- what follows a mark is laid out too
 pub after-mark : (look : ℕ → List ℕ) (at k : ℕ) (tables : List Table) (m : Mark) (bs : List Block) → T (okFrom look at k tables (mark m ∷ bs)) → T (okFrom look (suc at) 0 tables bs)
@@ -163,6 +148,35 @@ states look at k tables (commit r s q ls ∷ bs) t (suc p) h d =
     i ∙ omega (arith, length-append tables (next ls (latest tables) ∷ []))
 states look at k tables (mark m ∷ bs) t zero h d = absurd (d refl)
 states look at k tables (mark m ∷ bs) t (suc p) h d = states look (suc at) 0 tables bs (after-mark look at k tables m bs t) p (omega arith) d
+
+-- a mark states none that is later than the commits before it
+abbrev marking : Block → ℕ
+marking label = 0
+marking (content r b) = 0
+marking (commit r s t ls) = 0
+marking (mark (released r seat stamp)) = r
+marking blank = 0
+
+marks-low : (look : ℕ → List ℕ) (at k : ℕ) (tables : List Table) (bs : List Block) → T (okFrom look at k tables bs) → (p : ℕ) → p < usedIn bs
+    → marking (getD bs p blank) ≤ length tables + count (take p bs)
+unfolding okFrom
+marks-low look at k tables [] t p h = absurd (omega arith)
+marks-low look at k tables (label ∷ bs) t p h = absurd t
+marks-low look at k tables (blank ∷ bs) t p h = absurd (omega arith)
+marks-low look at k tables (content r b ∷ bs) t zero h = omega arith
+marks-low look at k tables (content r b ∷ bs) t (suc p) h =
+    marks-low look at (suc k) tables bs (and-true (eqb r (length tables)) (okFrom look at (suc k) tables bs) t .1) p (omega arith)
+marks-low look at k tables (commit r s q ls ∷ bs) t zero h = omega arith
+marks-low look at k tables (commit r s q ls ∷ bs) t (suc p) h =
+    let u = and-true (eqb r (length tables)) (laid look at k tables s ls && okFrom look (suc (at + k)) 0 (grown tables ls) bs) t .1 in
+    let i = marks-low look (suc (at + k)) 0 (grown tables ls) bs (and-true (laid look at k tables s ls) (okFrom look (suc (at + k)) 0 (grown tables ls) bs) u .1) p (omega arith) in
+    omega (arith, i, length-append tables (next ls (latest tables) ∷ []))
+marks-low look at k tables (mark (released r seat stamp) ∷ bs) t zero h =
+    let m = released r seat stamp in
+    let u = and-true (stands tables m) (okFrom look (suc at) 0 tables bs) (and-true (eqb k 0) (stands tables m && okFrom look (suc at) 0 tables bs) t .1) .0 in
+    let v = and-true (leb 1 r && ltb r (length tables)) (leb 1 seat && leb seat 4) u .0 in
+    omega (arith, ltb→lt r (length tables) (and-true (leb 1 r) (ltb r (length tables)) v .1))
+marks-low look at k tables (mark m ∷ bs) t (suc p) h = marks-low look (suc at) 0 tables bs (after-mark look at k tables m bs t) p (omega arith)
 
 -- all commits stand in the blocks in use
 counts-all : (look : ℕ → List ℕ) (bs : List Block) → length (readFrom look bs) ≤ count (take (usedIn bs) bs)
@@ -272,18 +286,44 @@ module _ (s : List ℕ) (n used : ℕ) (A : Passed s n used) where
       let e : p ≡ suc p - 1 = omega arith in
       ap (λ (x : List Block). eraAt x (suc p)) whole ∙ ap (λ (x : ℕ). 1 + count (take x rest)) e
 
+  block-rest : (p : ℕ) → getD (blocksOf n s) (suc p) blank ≡ getD rest p blank
+  block-rest p = ap (λ (x : List Block). getD x (suc p) blank) whole
+
   -- the revision that block p states, where it is no mark
-  pub rev-at : (p : ℕ) → 1 ≤ p → p < used → (kindOf (parse (lent s p)) ≡ 4 → ⊥) → twoAt (lent s p) 4 ≡ eraAt (blocksOf n s) p
-  rev-at zero h g d = absurd (omega arith)
-  rev-at (suc p) h g d =
-      let b : getD (blocksOf n s) (suc p) blank ≡ parse (lent s (suc p)) = block-at n (suc p) s (omega (arith, used-high)) in
-      let w : getD (blocksOf n s) (suc p) blank ≡ getD rest p blank = ap (λ (x : List Block). getD x (suc p) blank) whole in
-      let i : p < usedIn rest = omega (arith, used-is) in
-      let t = opened (blocksOf n s) okAll .2 in
-      let k : 2 ≤ kindOf (parse (lent s (suc p))) = subst (λ (x : Block). 2 ≤ kindOf x) (sym w ∙ b) (kinds (bytesAt (blocksOf n s)) 1 0 (replicate 32 0 ∷ []) rest t p i) in
-      sym (stating-two (lent s (suc p)) k d) ∙ ap stating (sym b ∙ w)
-      ∙ states (bytesAt (blocksOf n s)) 1 0 (replicate 32 0 ∷ []) rest t p i (λ e. d (ap kindOf (sym b ∙ w) ∙ e))
+  pub era-stated : (p : ℕ) → 1 ≤ p → p < used → (kindOf (getD (blocksOf n s) p blank) ≡ 4 → ⊥) → stating (getD (blocksOf n s) p blank) ≡ eraAt (blocksOf n s) p
+  era-stated zero h g d = absurd (omega arith)
+  era-stated (suc p) h g d =
+      ap stating (block-rest p)
+      ∙ states (bytesAt (blocksOf n s)) 1 0 (replicate 32 0 ∷ []) rest (opened (blocksOf n s) okAll .2) p (omega (arith, used-is)) (λ e. d (ap kindOf (block-rest p) ∙ e))
       ∙ sym (ap (λ (x : List Block). eraAt x (suc p)) whole)
+
+  used-kind : (p : ℕ) → 1 ≤ p → p < used → 2 ≤ kindOf (getD (blocksOf n s) p blank)
+  used-kind zero h g = absurd (omega arith)
+  used-kind (suc p) h g =
+      subst (λ (x : Block). 2 ≤ kindOf x) (sym (block-rest p))
+      (kinds (bytesAt (blocksOf n s)) 1 0 (replicate 32 0 ∷ []) rest (opened (blocksOf n s) okAll .2) p (omega (arith, used-is)))
+
+  block-lent : (p : ℕ) → p < used → getD (blocksOf n s) p blank ≡ parse (lent s p)
+  block-lent p g = block-at n p s (omega (arith, used-high))
+
+  pub rev-at : (p : ℕ) → 1 ≤ p → p < used → (kindOf (parse (lent s p)) ≡ 4 → ⊥) → twoAt (lent s p) 4 ≡ eraAt (blocksOf n s) p
+  rev-at p h g d =
+      let b = block-lent p g in
+      sym (stating-two (lent s p) (subst (λ (x : Block). 2 ≤ kindOf x) b (used-kind p h g)) d) ∙ ap stating (sym b) ∙ era-stated p h g (λ e. d (ap kindOf (sym b) ∙ e))
+
+  -- .. and where it is one, none that is later
+  mark-low : (p : ℕ) → 1 ≤ p → p < used → marking (getD (blocksOf n s) p blank) ≤ eraAt (blocksOf n s) p
+  mark-low zero h g = absurd (omega arith)
+  mark-low (suc p) h g =
+      let e : eraAt (blocksOf n s) (suc p) ≡ 1 + count (take p rest) = ap (λ (x : List Block). eraAt x (suc p)) whole in
+      omega (arith, ap marking (block-rest p), e, marks-low (bytesAt (blocksOf n s)) 1 0 (replicate 32 0 ∷ []) rest (opened (blocksOf n s) okAll .2) p (omega (arith, used-is)))
+
+  pub rev-low : (p : ℕ) → 1 ≤ p → p < used → twoAt (lent s p) 4 ≤ eraAt (blocksOf n s) p
+  rev-low p h g =
+      elim (eq-or (kindOf (parse (lent s p))) 4) [
+        | inl e ↦ omega (arith, mark-low p h g, ap marking (block-lent p g ∙ parse-mark (lent s p) e))
+        | inr o ↦ omega (arith, rev-at p h g o)
+      ]
 
   history-count : length (historyOf n s) ≤ count (take (usedIn rest) rest)
   unfolding historyOf

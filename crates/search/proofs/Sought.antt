@@ -18,8 +18,9 @@ use Rattle.model.specs.Store.{blocksOf, historyOf}
 use Rattle.laws.proofs.Bridge.{tables-trail}
 use Rattle.laws.proofs.Puts.{length-puts}
 use Rattle.laws.proofs.Tables.{length-next, trail, trailOf}
+use Rattle.search.proofs.Halving.{backAll, inAny}
 use Rattle.search.proofs.Revisions.{Passed, after, counted, okAll, opened, trail-after, used-few, used-is, usedIn}
-use Rattle.search.specs.Find.{Bound, back, hitIn, inBlock}
+use Rattle.search.specs.Find.{Bound, hitIn}
 use Rattle.search.specs.declared.Found.{Found}
 
 -- change by change: the block of the first line that names the sheet, or else what an older commit has
@@ -78,33 +79,33 @@ length-after (commit r s q ls ∷ xs) t = length-after xs (next ls t) ∙ length
 length-after (mark m ∷ xs) t = length-after xs t
 length-after (blank ∷ xs) t = length-after xs t
 
-one-block : (i : ℕ) (x : Block) (older : Found) (t : Table) → i < length t → older .block ≡ getD t i 0 → inBlock i x older .block ≡ getD (one x t) i 0
+one-block : (i : ℕ) (x : Block) (older : Found) (t : Table) → i < length t → older .block ≡ getD t i 0 → inAny i x older .block ≡ getD (one x t) i 0
 one-block i label older t h e = e
 one-block i (content r b) older t h e = e
 one-block i (commit r s q ls) older t h e = hit-block i r ls older ∙ ap (hit i ls) e ∙ sym (next-at ls t i h)
 one-block i (mark m) older t h e = e
 one-block i blank older t h e = e
 
-back-after : (bs : List Block) (i : ℕ) → i < 32 → (b : ℕ) → b ≤ length bs → back (label ∷ bs) i (suc b) .block ≡ getD (after (take b bs) (replicate 32 0)) i 0
-unfolding back
+back-after : (bs : List Block) (i : ℕ) → i < 32 → (b : ℕ) → b ≤ length bs → backAll (label ∷ bs) i (suc b) .block ≡ getD (after (take b bs) (replicate 32 0)) i 0
+unfolding backAll
 back-after bs i h zero g = sym (getD-replicate 32 i 0 0 h)
 back-after bs i h (suc b) g =
     let t = after (take b bs) (replicate 32 0) in
-    one-block i (getD bs b blank) (back (label ∷ bs) i (suc b)) t (subst (λ (x : ℕ). i < x) (sym (length-after (take b bs) (replicate 32 0))) h) (back-after bs i h b (omega arith))
+    one-block i (getD bs b blank) (backAll (label ∷ bs) i (suc b)) t (subst (λ (x : ℕ). i < x) (sym (length-after (take b bs) (replicate 32 0))) h) (back-after bs i h b (omega arith))
     ∙ ap (λ (x : Table). getD x i 0) (sym (ap (λ (x : List Block). after x (replicate 32 0)) (take-suc bs b blank (omega arith))
     ∙ after-snoc (take b bs) (getD bs b blank) (replicate 32 0)))
 
 -- THE STATEMENT: before the bound of r stands what tree r's table has
 pub sought : (s : List ℕ) (n used r b i : ℕ) → Passed s n used → Bound (blocksOf n s) used r b → r ≤ length (historyOf n s) → i < 32
-    → back (blocksOf n s) i b .block ≡ getD (getD (tablesOf (blocksOf n s)) r []) i 0
+    → backAll (blocksOf n s) i b .block ≡ getD (getD (tablesOf (blocksOf n s)) r []) i 0
 unfolding trailOf
 sought s n used r b i A G last h =
     let q = opened (blocksOf n s) (okAll s n used A) in
     let bs = q .0 in
     let e : b ≡ suc (b - 1) = omega (arith, G .low) in
     let u : b - 1 ≤ usedIn bs = omega (arith, G .high, used-is s n used A) in
-    ap (λ (x : List Block). back x i b .block) (q .1)
-    ∙ ap (λ (x : ℕ). back (label ∷ bs) i x .block) e
+    ap (λ (x : List Block). backAll x i b .block) (q .1)
+    ∙ ap (λ (x : ℕ). backAll (label ∷ bs) i x .block) e
     ∙ back-after bs i h (b - 1) (omega (arith, used-few bs))
     ∙ ap (λ (x : Table). getD x i 0) (sym (trail-after (bytesAt (blocksOf n s)) 1 0 (replicate 32 0 ∷ []) (replicate 32 0) bs (q .2) (b - 1) u))
     ∙ ap (λ (x : ℕ). getD (getD (trail (replicate 32 0) bs) x []) i 0) (counted s n used A r last b G)

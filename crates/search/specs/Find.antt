@@ -5,17 +5,15 @@ use mathlib.Core.Bool.{cond}
 use mathlib.Core.List.{List, [], _∷_}
 use mathlib.Core.Option.{none}
 use mathlib.Core.Path.{_≡_}
-use lib.Dec.{eqb}
+use lib.Dec.{eqb, ltb}
 use lib.ListN.{getD, length, take}
-use Rattle.block.specs.Buffer.{blockAt}
-use Rattle.model.specs.Blocks.{Block, Line, blank, bytesAt, commit, content, label, mark, parse}
+use Rattle.model.specs.Blocks.{Block, Line, blank, bytesAt, commit, content, label, mark}
 use Rattle.model.specs.Calls.{storeConditions}
 use Rattle.model.specs.History.{Bytes, namer}
 use Rattle.model.specs.Refusals.{firstOf}
 use Rattle.model.specs.Store.{blockCount, blockUsed, blocksOf, storeHistory, usedOf}
 use Rattle.model.specs.declared.Span.{Span}
 use Rattle.search.specs.declared.Found.{Found}
-use Rattle.shape.specs.Shape.{kindOf}
 
 -- a store of n blocks that no line 1 to 3 refuses, with U of them used
 pub record Accepted (store : Bytes) (n used : ℕ) : Type 0 where
@@ -43,13 +41,6 @@ pub record Bound (bs : List Block) (used r b : ℕ) : Type 0 where
   pub before : (p : ℕ) → 1 ≤ p → p < b → eraAt bs p ≤ r
   pub after : (p : ℕ) → b ≤ p → p < used → r < eraAt bs p
 
--- q is the first block from `start` on and before `stop` that is no mark, or else `stop`
-pub record Dated (s : Bytes) (start stop q : ℕ) : Type 0 where
-  pub low : start ≤ q
-  pub high : q ≤ stop
-  pub passed : (p : ℕ) → start ≤ p → p < q → kindOf (parse (blockAt s p)) ≡ 4
-  pub dated : q < stop → kindOf (parse (blockAt s q)) ≡ 4 → ⊥
-
 -- no commit names the sheet
 abbrev pub nowhere : Found
 nowhere = record { block = 0; revision = 0 }
@@ -59,17 +50,18 @@ abbrev pub hitIn : ℕ → ℕ → List Line → Found → Found
 hitIn i r [] older = older
 hitIn i r (l ∷ ls) older = cond (eqb (l .sheet) i) (record { block = l .block; revision = r }) (hitIn i r ls older)
 
-abbrev pub inBlock : ℕ → Block → Found → Found
-inBlock i label older = older
-inBlock i (content r b) older = older
-inBlock i (commit r seat stamp ls) older = hitIn i r ls older
-inBlock i (mark m) older = older
-inBlock i blank older = older
+-- a commit up to R
+abbrev pub inBlock : ℕ → ℕ → Block → Found → Found
+inBlock R i label older = older
+inBlock R i (content r b) older = older
+inBlock R i (commit r seat stamp ls) older = cond (ltb R r) older (hitIn i r ls older)
+inBlock R i (mark m) older = older
+inBlock R i blank older = older
 
--- "goes back commit by commit .. and stops at the first hit", from the block before block b
-unfoldable pub back : List Block → ℕ → ℕ → Found
-back bs i zero = nowhere
-back bs i (suc b) = inBlock i (getD bs b blank) (back bs i b)
+-- "goes back commit by commit .. and stops at the first hit", from the block before block b, over the commits up to R
+unfoldable pub back : ℕ → List Block → ℕ → ℕ → Found
+back R bs i zero = nowhere
+back R bs i (suc b) = inBlock R i (getD bs b blank) (back R bs i b)
 
 -- the block that sheet i of tree R uses, 0 where the tree lacks it; and the last commit up to R that names the sheet
 abbrev pub foundIn : Bytes → ℕ → ℕ → Found

@@ -14,7 +14,7 @@ ghost use Rattle.model.specs.Store.{blockCount, blocksOf, storeHistory};
 ghost use Rattle.model.specs.Types.{answerOf};
 ghost use Rattle.model.specs.declared.Answer.the-variants.{Logged};
 ghost use Rattle.search.specs.Deed.{deedIn, deedOf};
-ghost use Rattle.search.specs.Find.{Accepted, Bound, Dated, Spanned, back, foundIn};
+ghost use Rattle.search.specs.Find.{Accepted, Bound, Spanned, back, eraAt, foundIn};
 
 // What the last commit that names a sheet says of it: the block that the sheet uses since, 0 for a delete, and the commit's revision. Both are 0 where none names it.
 pub struct Found {
@@ -22,27 +22,11 @@ pub struct Found {
     pub revision: u32,
 }
 
-// The first block from `from` on and before `to` that is no mark, else `to`.
-fn next_dated(store: &[u8], from: usize, to: usize) -> usize
-    requires { ⌜ (from ≤ to) × (to * 512 ≤ length (now store)) ⌝ }
-    ensures { λ x. ⌜ Dated (now (store .entry)) from to x ⌝ }
-{
-    let mut q = from;
-    while q < to {
-        let a = q * 512;
-        let e = a + 512;
-        if shape::kind(&store[a..e]) != 4 {
-            return q;
-        }
-        q += 1;
-    }
-    q
-}
-
-// Where halving by byte 4 of the blocks ends: on a store without marks, the first block after commit r.
-fn halved(store: &[u8], used: usize, r: usize) -> usize
-    requires { ⌜ (1 ≤ used) × (used ≤ 4096) × (used * 512 ≤ length (now store)) ⌝ }
-    ensures { λ x. ⌜ (1 ≤ x) × (x ≤ used) ⌝ }
+// Where halving by what the blocks state ends: no commit up to r stands from there on. A content or a commit block states the revision that it belongs to, and a mark none
+// that is later.
+fn halved(store: &[u8], n: usize, used: usize, r: usize) -> usize
+    requires { ⌜ Accepted (now store) n used × (r ≤ last (storeHistory (now store))) ⌝ }
+    ensures { λ x. ⌜ (1 ≤ x) × (x ≤ used) × (r < eraAt (blocksOf used (now (store .entry))) x) ⌝ }
 {
     let mut lo: usize = 1;
     let mut hi = used;
@@ -59,67 +43,31 @@ fn halved(store: &[u8], used: usize, r: usize) -> usize
     lo
 }
 
-// The first block after commit r, or after the label where r is 0: the interval is halved, since the revisions that content and commit blocks state rise. What a mark
-// states is not where it stands, so the next block that is no mark is asked in its place.
-fn bound_among_marks(store: &[u8], n: usize, used: usize, r: usize) -> usize
-    requires { ⌜ Accepted (now store) n used × (r ≤ last (storeHistory (now store))) ⌝ }
-    ensures { λ x. ⌜ Bound (blocksOf used (now (store .entry))) used r x ⌝ }
-{
-    let mut lo: usize = 1;
-    let mut hi = used;
-    while lo < hi {
-        let mid = (lo + hi) / 2;
-        let c = mid * 512;
-        let d = c + 512;
-        let b = &store[c..d];
-        if shape::kind(b) != 4 {
-            if shape::two_at(b, 4) as usize <= r {
-                lo = mid + 1;
-                continue;
-            }
-            hi = mid;
-            continue;
-        }
-        let q = next_dated(store, mid, hi);
-        if hi <= q {
-            hi = mid;
-            continue;
-        }
-        let a = q * 512;
-        let e = a + 512;
-        if shape::two_at(&store[a..e], 4) as usize <= r {
-            lo = q + 1;
-            continue;
-        }
-        hi = mid;
-    }
-    lo
-}
-
-// The same. Before revision 1 there is the label alone. Where marks did not mislead the plain halving, the block before its end is commit r, and no other block is.
+// The first block after commit r, or after the label where r is 0. A mark that stands later and states r or less can draw the halving behind it: then the way back is longer.
 fn bound(store: &[u8], n: usize, used: usize, r: usize) -> usize
     requires { ⌜ Accepted (now store) n used × (r ≤ last (storeHistory (now store))) ⌝ }
     ensures { λ x. ⌜ Bound (blocksOf used (now (store .entry))) used r x ⌝ }
 {
-    if r == 0 {
-        return 1;
-    }
-    let p = halved(store, used, r);
-    let a = (p - 1) * 512;
-    let e = a + 512;
-    let b = &store[a..e];
-    if shape::kind(b) == 3 {
-        if shape::two_at(b, 4) as usize == r {
-            return p;
+    let mut p = halved(store, n, used, r);
+    while 1 < p {
+        let q = p - 1;
+        let a = q * 512;
+        let e = a + 512;
+        let b = &store[a..e];
+        if shape::kind(b) != 4 {
+            if shape::two_at(b, 4) as usize <= r {
+                return p;
+            }
         }
+        p = q;
     }
-    bound_among_marks(store, n, used, r)
+    p
 }
 
-// The newest change of sheet i in the commits before block `end`.
-fn find(store: &[u8], n: usize, used: usize, end: usize, i: usize) -> Found
+// The newest change of sheet i in the commits up to r before block `end`.
+fn find(store: &[u8], n: usize, used: usize, end: usize, r: usize, i: usize) -> Found
     requires { ⌜ Accepted (now store) n used × (end ≤ used) ⌝ }
-    ensures { λ x. ⌜ x ≡ back (blocksOf used (now (store .entry))) i end ⌝ }
+    ensures { λ x. ⌜ x ≡ back r (blocksOf used (now (store .entry))) i end ⌝ }
 {
     let mut found = Found {
         block: 0,
@@ -135,6 +83,9 @@ fn find(store: &[u8], n: usize, used: usize, end: usize, i: usize) -> Found
             continue;
         }
         let revision = shape::two_at(b, 4);
+        if r < revision as usize {
+            continue;
+        }
         let m = shape::two_at(b, 2) as usize;
         let mut j: usize = 0;
         'changes: while j < m {
@@ -155,8 +106,8 @@ pub fn look_up(store: &[u8], n: usize, used: usize, r: usize, i: usize) -> Found
     requires { ⌜ Accepted (now store) n used × (r ≤ last (storeHistory (now store))) × (i < 32) ⌝ }
     ensures { λ x. ⌜ x ≡ foundIn (now (store .entry)) r i ⌝ }
 {
-    let end = bound(store, n, used, r);
-    find(store, n, used, end, i)
+    let end = halved(store, n, used, r);
+    find(store, n, used, end, r, i)
 }
 
 // The place of the bytes that block p holds.

@@ -1,79 +1,91 @@
--- `search::bound` meets its contract.
+-- `search::bound` meets its contract. The invariant: from block p on the blocks are of later eras.
 -- Assumes nothing.
-use Prim.Native.Nat.{_*_, _+_, _-_, _≤_, ℕ}
-use mathlib.Core.List.{List}
+use Prim.Native.Nat.{_-_, _<_, _≤_, ℕ}
 use mathlib.Core.Path.{_∙_, _≡_, subst, sym}
 use native.Mathlib.Omega.{arith}
 use borrow.Author.Needs.{needs}
-use lib.ListN.{length}
 use Rattle.model.specs.Store.{blocksOf}
-use Rattle.search.proofs.Halving.{bound-behind}
-use Rattle.search.proofs.Revisions.{passed, used-low}
+use Rattle.search.proofs.Halving.{behind-later, behind-mark, bound-first, bound-here, halved-room}
 use Rattle.search.proofs.bound.Statement.{statement}
-use Rattle.search.specs.Find.{Accepted, Bound}
+use Rattle.search.specs.Find.{Bound, eraAt}
+use Rattle.store.proofs.Blocks.{part-size}
 use Rattle.search.proofs.bound.Tie as tie
 
-room : (s : List ℕ) (n used : ℕ) → Accepted s n used → (1 ≤ used) × (used ≤ 4_096) × (used * 512 ≤ length s)
-room s n used A = let P = passed s n used A in (used-low s used used P, P .few, P .whole)
+abbrev Inv-loop : tie.InvT-loop
+Inv-loop store n used r p₀ p = (1 ≤ p) × (p ≤ used) × (r < eraAt (blocksOf used store) p)
 
-returns : tie.Need-returns
-returns c = let k = c .before .before in let a = k .args in
-    let w = room (a .store .now) (a .n) (a .used) (k .pre .0) in
-    record { low = omega arith; high = omega arith; before = λ p l u. absurd (omega arith); after = λ p l u. omega arith }
+abbrev μ-loop : tie.MeasureT-loop
+μ-loop store n used r p₀ p = p
 
-halved-requires : tie.Need-halved-requires
-halved-requires c κs = let k = c .before .before in room (k .args .store .now) (k .args .n) (k .args .used) (k .pre .0)
+halved-requires : tie.Need-halved-requires Inv-loop μ-loop
+halved-requires c κs = search needs
 
-sub-a : tie.Need-sub-a
-sub-a c = search needs
+loop-holds : tie.Need-loop-holds Inv-loop μ-loop
+loop-holds c = c .halved .ensures
 
-mul-a : tie.Need-mul-a
-mul-a c = let k = c .before .before .before in let w = room (k .args .store .now) (k .args .n) (k .args .used) (k .pre .0) in omega arith
+sub-q : tie.Need-sub-q Inv-loop μ-loop
+sub-q c = search needs
 
-add-e : tie.Need-add-e
-add-e c = let k = c .before .before .before in let w = room (k .args .store .now) (k .args .n) (k .args .used) (k .pre .0) in omega arith
+mul-a : tie.Need-mul-a Inv-loop μ-loop
+mul-a c = let k = c .before .before .before .before in let a = k .args in let w = halved-room (a .store .now) (a .n) (a .used) (k .pre .0) (a .r) in omega arith
 
-sub-b : tie.Need-sub-b
+add-e : tie.Need-add-e Inv-loop μ-loop
+add-e c = let k = c .before .before .before .before in let a = k .args in let w = halved-room (a .store .now) (a .n) (a .used) (k .pre .0) (a .r) in omega arith
+
+sub-b : tie.Need-sub-b Inv-loop μ-loop
 sub-b c = search needs
 
-part-b-start : tie.Need-part-b-start
+part-b-start : tie.Need-part-b-start Inv-loop μ-loop
 part-b-start c = search needs
 
-part-b-end : tie.Need-part-b-end
-part-b-end c = let k = c .before .before .before in let w = room (k .args .store .now) (k .args .n) (k .args .used) (k .pre .0) in search needs
+part-b-end : tie.Need-part-b-end Inv-loop μ-loop
+part-b-end c = let k = c .before .before .before .before in let a = k .args in let w = halved-room (a .store .now) (a .n) (a .used) (k .pre .0) (a .r) in search needs
 
-kind-requires : tie.Need-kind-requires
-kind-requires c κs = search needs
+kind-requires : tie.Need-kind-requires Inv-loop μ-loop
+kind-requires c κs = let k = c .before .before .before .before .before in let a = k .args in let w = halved-room (a .store .now) (a .n) (a .used) (k .pre .0) (a .r) in part-size (a .store .now) (a .used) (c .before .before .loop .p - 1) (w .2) (omega arith)
 
-two-at-requires : tie.Need-two-at-requires
+two-at-requires : tie.Need-two-at-requires Inv-loop μ-loop
 two-at-requires c κs = search needs
 
-cast-if3 : tie.Need-cast-if3
-cast-if3 c = search needs
+cast-if2 : tie.Need-cast-if2 Inv-loop μ-loop
+cast-if2 c = search needs
 
-returns-2 : tie.Need-returns-2
+returns : tie.Need-returns Inv-loop μ-loop
+returns c =
+    let k = c .before .before .before .before .before .before .before .before .before in let a = k .args in let l = c .before .before .before .before .before .before .loop in
+    bound-here (a .store .now) (a .n) (a .used) (k .pre .0) (a .r) (l .p) (omega arith) (l .inv .1) (l .inv .2) (c .before .two-at .result) (λ e. c .before .before .if1 .taken (c .before .before .before .kind .ensures ∙ e)) (c .before .two-at .ensures .0) (omega arith)
+
+loop-less : tie.Need-loop-less Inv-loop μ-loop
+loop-less c = search needs
+
+loop-again : tie.Need-loop-again Inv-loop μ-loop
+loop-again c =
+    let k = c .before .before .before .before .before .before .before .before .before in let a = k .args in let l = c .before .before .before .before .before .before .loop in
+    (omega arith, omega arith, behind-later (a .store .now) (a .n) (a .used) (k .pre .0) (a .r) (l .p - 1) (c .before .two-at .result) (omega arith) (omega arith) (c .before .two-at .ensures .0) (omega arith))
+
+loop-less-2 : tie.Need-loop-less-2 Inv-loop μ-loop
+loop-less-2 c = search needs
+
+loop-again-2 : tie.Need-loop-again-2 Inv-loop μ-loop
+loop-again-2 c =
+    let k = c .before .before .before .before .before .before .before in let a = k .args in let l = c .before .before .before .before .loop in
+    (omega arith, omega arith, behind-mark (a .store .now) (a .n) (a .used) (k .pre .0) (a .r) (l .p) (omega arith) (l .inv .1) (l .inv .2) (sym (c .before .kind .ensures) ∙ c .if1 .left))
+
+returns-2 : tie.Need-returns-2 Inv-loop μ-loop
 returns-2 c =
-    let k = c .before .before .before .before .before .before .before .before in let a = k .args in
-    let p = c .before .before .before .before .before .halved .result in
-    let l = c .before .before .before .before .before .halved .ensures in
-    let d : p - 1 + 1 ≡ p = omega arith in
-    subst (Bound (blocksOf (a .used) (a .store .now)) (a .used) (a .r)) d
-    (bound-behind (a .store .now) (a .n) (a .used) (k .pre .0) (a .r) (p - 1) _ (omega arith) (sym (c .before .before .before .kind .ensures) ∙ c .before .before .if2 .taken)
-    (c .before .two-at .ensures .0) (c .if3 .taken))
-
-bound-among-marks-requires : tie.Need-bound-among-marks-requires
-bound-among-marks-requires c κs = search needs
-
-returns-3 : tie.Need-returns-3
-returns-3 c = search needs
+    let k = c .before .before .before .before in let a = k .args in let l = c .before .loop in
+    let e : 1 ≡ l .p = omega arith in
+    subst (Bound (blocksOf (a .used) (a .store .now)) (a .used) (a .r)) e (bound-first (a .store .now) (a .n) (a .used) (k .pre .0) (a .r) (subst (λ (x : ℕ). a .r < eraAt (blocksOf (a .used) (a .store .now)) x) (sym e) (l .inv .2)))
 
 pub bound-spec : {M : Type 1} → statement M
 bound-spec =
     tie.close
     (tie.spec
-    returns
+    Inv-loop
+    μ-loop
     halved-requires
-    sub-a
+    loop-holds
+    sub-q
     mul-a
     add-e
     sub-b
@@ -81,7 +93,10 @@ bound-spec =
     part-b-end
     kind-requires
     two-at-requires
-    cast-if3
-    returns-2
-    bound-among-marks-requires
-    returns-3)
+    cast-if2
+    returns
+    loop-less
+    loop-again
+    loop-less-2
+    loop-again-2
+    returns-2)
