@@ -4,7 +4,7 @@ numbers likewise.
 Answers are those of tests/model: ('no', number), ('done',), ('revision', R), ('stopped',), ('bytes', bytes, number or None), ('status', 0 to 8, number),
 ('log', ..), ('holder', seat or 0).
 """
-import ctypes, os, pathlib, subprocess
+import ctypes, os, pathlib, subprocess, tempfile
 
 ROOT = pathlib.Path(__file__).resolve().parent.parent
 u32, size_t = ctypes.c_uint32, ctypes.c_size_t
@@ -44,9 +44,11 @@ def build():
     if folder is None:
         subprocess.run(['rt', 'staticlib', 'sheetstore'], cwd=ROOT, check=True, stdout=subprocess.DEVNULL)
         folder = ROOT / 'target' / 'staticlib'
-    archive, library = (pathlib.Path(folder) / f'libsheetstore.{kind}' for kind in ('a', 'so'))
-    subprocess.run(['gcc', '-shared', '-o', library, '-Wl,--whole-archive', archive, '-Wl,--no-whole-archive'], check=True)
-    return ctypes.CDLL(str(library.resolve()))
+    archive = pathlib.Path(folder) / 'libsheetstore.a'
+    with tempfile.TemporaryDirectory() as own:  # tests run beside each other
+        library = pathlib.Path(own) / 'libsheetstore.so'
+        subprocess.run(['gcc', '-shared', '-o', library, '-Wl,--whole-archive', archive, '-Wl,--no-whole-archive'], check=True)
+        return ctypes.CDLL(str(library))
 
 
 class Engine:
