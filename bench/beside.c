@@ -67,6 +67,7 @@ enum { FRESH, WHOLE, EDITED, TAIL };
     X(clear_cut, TAIL, 0, sheets_clear_cut(OF_STORE, 33)) \
     X(replay_of_no_call, WHOLE, 0, sheets_replay(REPLAYED)) \
     X(replay_of_128_reads, WHOLE, 0, sheets_replay(REPLAYED)) \
+    X(replay_of_128_far_reads, WHOLE, 0, sheets_replay(REPLAYED)) \
     X(replay_of_128_logs, WHOLE, 0, sheets_replay(REPLAYED)) \
     X(replay_of_128_status, WHOLE, 0, sheets_replay(REPLAYED)) \
     X(replay_of_128_updates, WHOLE, 0, sheets_replay(REPLAYED))
@@ -122,7 +123,7 @@ static size_t fill(size_t room) {
     return used;
 }
 
-/* The script of a line: 128 calls by seat 1, none for the other lines. */
+/* The script of a line: 128 calls by seat 1, none for the other lines. Far reads are of a sheet that no commit names: the search goes back to the first block. */
 static void write_script(const char *name) {
     const char *kinds[] = {"reads", "logs", "status", "updates"};
     const uint8_t numbers[] = {9, 12, 11, 7};
@@ -134,6 +135,8 @@ static void write_script(const char *name) {
         script_len = sizeof script;
         for (uint32_t c = 0; c < CALLS; c++) {
             uint32_t a[2] = {last, sheet};
+            if (strstr(name, "far"))
+                a[1] = 31;
             if (k == 2)
                 a[0] = sheet, a[1] = 0;
             if (k == 3)

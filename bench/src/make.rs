@@ -204,6 +204,16 @@ pub fn released_at_once(blocks: usize) -> Vec<u8> {
     smallest(blocks, |m| m.release(m.last, 1, 7)).store
 }
 
+/// The smallest commits, each released 100 commits later.
+pub fn released_later(blocks: usize) -> Vec<u8> {
+    smallest(blocks, |m| if m.last > 100 { m.release(m.last - 100, 1, 7) }).store
+}
+
+/// The smallest commits, and behind each second one the release of the revision half as old: releases that state far less than where they stand, among all commits.
+pub fn released_half_as_old(blocks: usize) -> Vec<u8> {
+    smallest(blocks, |m| if m.last % 2 == 0 { m.release(m.last / 2, 1, 7) }).store
+}
+
 /// The smallest commits, and behind them the releases of all but the first `left` of them, the newest first: with none left, as full of releases as a store can be.
 pub fn released_behind(blocks: usize, left: usize) -> Vec<u8> {
     let mut m = smallest(blocks, |_| ());

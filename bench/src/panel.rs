@@ -253,24 +253,40 @@ fn on_stores() {
     }
 }
 
-/// The search of a sheet in the same commits without releases, with each released at once, and with all releases behind them.
+/// The search of a sheet in the same commits without releases and with releases at several places.
 fn searches() {
-    let stores = [("no release", make::released_behind(4096, 4096)), ("each released at once", make::released_at_once(4096)), ("all releases behind the commits", make::released_behind(4096, 0))];
+    let stores = [
+        ("no release", make::released_behind(4096, 4096)),
+        ("each released at once", make::released_at_once(4096)),
+        ("each released 100 commits later", make::released_later(4096)),
+        ("behind each second the one half as old", make::released_half_as_old(4096)),
+        ("all releases behind the commits", make::released_behind(4096, 0)),
+    ];
     let last = open(&stores[0].1).expect("the maker lays out a history").last;
     println!("read on an accepted store, inner function, {last} commits");
-    for (what, r, sheet) in [("found in commit R, R the last", last, 1), ("found in commit R, R in the middle", last / 4 * 2, 1), ("found in the first commit, R the last", last, 0)] {
+    let mut rng = make::Rng(7);
+    let at_random: Vec<usize> = (0..1000).map(|_| 2 + rng.below(last / 2) * 2).collect();
+    for (what, revisions, sheet) in [
+        ("found in commit R, R the last", vec![last], 1),
+        ("found in commit R, R in the middle", vec![last / 4 * 2], 1),
+        ("found in commit R, R at random", at_random, 1),
+        ("found in the first commit, R the last", vec![last], 0),
+    ] {
         for (kind, bytes) in &stores {
             let used = open(bytes).expect("the maker lays out a history").used;
-            assert_eq!(engine::look_up(bytes, used, r, sheet) * BLOCK + 16, find(bytes, used, r, sheet).expect("it is there").0);
-            let many = 200;
+            for &r in &revisions {
+                assert_eq!(engine::look_up(bytes, used, r, sheet) * BLOCK + 16, find(bytes, used, r, sheet).expect("it is there").0);
+            }
+            let many = 1000;
+            let r = |k: usize| revisions[k % revisions.len()];
             let t = best(
                 50,
                 &mut [
-                    ("", Box::new(|| (0..many).for_each(|_| keep(store::find(black_box(bytes), used, r, sheet))))),
-                    ("", Box::new(|| (0..many).for_each(|_| keep(engine::look_up(black_box(bytes), used, r, sheet))))),
+                    ("", Box::new(|| (0..many).for_each(|k| keep(store::find(black_box(bytes), used, r(k), sheet))))),
+                    ("", Box::new(|| (0..many).for_each(|k| keep(engine::look_up(black_box(bytes), used, r(k), sheet))))),
                 ],
             );
-            println!("  {:<72} engine {:>8.0} ns, Rust {:>8.0} ns", format!("{what}, {kind}"), t[1] / many as f64, t[0] / many as f64);
+            println!("  {:<80} engine {:>8.0} ns, Rust {:>8.0} ns", format!("{what}, {kind}"), t[1] / many as f64, t[0] / many as f64);
         }
     }
 }
