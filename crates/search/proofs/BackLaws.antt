@@ -3,21 +3,23 @@
 use Prim.Native.Nat.{_*_, _+_, _-_, _<_, _≤_, suc, zero, ℕ}
 use mathlib.Core.Bool.{Bool, _&&_, cond, true}
 use mathlib.Core.List.{List}
-use mathlib.Core.Path.{_∙_, _≡_, ap, refl, subst, sym}
+use mathlib.Core.Path.{_∙_, _≡_, ap, ap₂, refl, subst, sym}
 use native.Mathlib.Omega.{arith}
-use borrow.Author.Tests.{eq-eqb, le-ltb, lt-ltb, ne-eqb}
+use borrow.Author.Tests.{eq-eqb, le-ltb, ne-eqb}
 use lib.Dec.{T, ltb}
 use lib.ListN.{drop, getD, take}
 use lib.Seq.{drop-drop}
 use Rattle.block.proofs.Says.{and-true}
 use Rattle.block.specs.Field.{twoAt}
 use Rattle.block.specs.Lists.{all, same}
-use Rattle.model.specs.Blocks.{Block, FitsBlock, Line, blank, commit, content, fieldsOf, fitsBlock, label, mark, parse, parseLine, parseLines}
+use Rattle.model.specs.Blocks.{Block, FitsBlock, Line, blank, fieldsOf, fitsBlock, parse, parseLine, parseLines}
 use Rattle.model.specs.Codec.{padded, parts, shaped}
 use Rattle.model.specs.Log.{marks, marksOk}
 use Rattle.model.specs.Pass.{logAll, ok}
 use Rattle.model.specs.Store.{blocksOf, lawful}
 use Rattle.laws.proofs.BlockCodes.{block-coded}
+use Rattle.search.proofs.Halving.{passed-over}
+use Rattle.search.proofs.Revisions.{stating}
 use Rattle.search.specs.Find.{back, hitIn, inBlock, nowhere}
 use Rattle.search.specs.declared.Found.{Found}
 use Rattle.shape.proofs.LineLaws.{block-of, left-all, left-none, left-step, sheet-of}
@@ -59,40 +61,25 @@ unfolding back
 back-step R bs i zero h = absurd (omega arith)
 back-step R bs i (suc p) h = let e : p ≡ suc p - 1 = omega arith in ap (λ (x : ℕ). inBlock R i (getD bs x blank) (back R bs i x)) e
 
-other-block : (R i : ℕ) (b : Block) (older : Found) → (kindOf b ≡ 3 → ⊥) → inBlock R i b older ≡ older
-other-block R i label older n = refl
-other-block R i (content r b) older n = refl
-other-block R i (commit r s t ls) older n = absurd (n refl)
-other-block R i (mark m) older n = refl
-other-block R i blank older n = refl
-
 module _ (R n : ℕ) (s : List ℕ) (i p : ℕ) (some : 0 < p) (h : p ≤ n) where
-  pub back-skip : (kindOf (parse (lent s (p - 1))) ≡ 3 → ⊥) → back R (blocksOf n s) i p ≡ back R (blocksOf n s) i (p - 1)
+  into : back R (blocksOf n s) i p ≡ inBlock R i (parse (lent s (p - 1))) (back R (blocksOf n s) i (p - 1))
+  into = back-step R (blocksOf n s) i p some ∙ ap (λ (b : Block). inBlock R i b (back R (blocksOf n s) i (p - 1))) (block-at n (p - 1) s (omega arith))
+
+  -- no commit, or one after R
+  pub back-skip : (kindOf (parse (lent s (p - 1))) ≡ 3 → R < twoAt (lent s (p - 1)) 4) → back R (blocksOf n s) i p ≡ back R (blocksOf n s) i (p - 1)
   back-skip k =
-      back-step R (blocksOf n s) i p some
-      ∙ ap (λ (b : Block). inBlock R i b (back R (blocksOf n s) i (p - 1))) (block-at n (p - 1) s (omega arith))
-      ∙ other-block R i (parse (lent s (p - 1))) (back R (blocksOf n s) i (p - 1)) k
+      let l = lent s (p - 1) in
+      into ∙ passed-over R i (parse l) (back R (blocksOf n s) i (p - 1)) (λ e. subst (λ (x : Block). R < stating x) (sym (parse-commit l e)) (k e))
 
-  module _ (r : ℕ) (k : kindOf (parse (lent s (p - 1))) ≡ 3) (er : r ≡ twoAt (lent s (p - 1)) 4) where
-    back-commit : back R (blocksOf n s) i p
-        ≡ cond (ltb R r) (back R (blocksOf n s) i (p - 1)) (hitIn i r (parseLines (twoAt (lent s (p - 1)) 2) (drop 16 (lent s (p - 1)))) (back R (blocksOf n s) i (p - 1)))
-    back-commit =
-        let l = lent s (p - 1) in
-        back-step R (blocksOf n s) i p some
-        ∙ ap (λ (b : Block). inBlock R i b (back R (blocksOf n s) i (p - 1))) (block-at n (p - 1) s (omega arith) ∙ parse-commit l k)
-        ∙ ap (λ (x : ℕ). cond (ltb R x) (back R (blocksOf n s) i (p - 1)) (hitIn i x (parseLines (twoAt l 2) (drop 16 l)) (back R (blocksOf n s) i (p - 1)))) (sym er)
-
-    -- a commit after R
-    pub back-later : R < r → back R (blocksOf n s) i p ≡ back R (blocksOf n s) i (p - 1)
-    back-later g = back-commit ∙ rw (lt-ltb R r g) refl
-
-    pub back-into : (m : ℕ) → r ≤ R → m ≡ twoAt (lent s (p - 1)) 2 → back R (blocksOf n s) i p ≡ hitIn i r (left (lent s (p - 1)) 16 m 0) (back R (blocksOf n s) i (p - 1))
-    back-into m g em =
-        let l = lent s (p - 1) in
-        back-commit
-        ∙ rw (le-ltb R r g) refl
-        ∙ ap (λ (y : ℕ). hitIn i r (parseLines y (drop 16 l)) (back R (blocksOf n s) i (p - 1))) (sym em)
-        ∙ ap (λ (x : List Line). hitIn i r x (back R (blocksOf n s) i (p - 1))) (sym (left-all l 16 m))
+  pub back-into : (r m : ℕ) → kindOf (parse (lent s (p - 1))) ≡ 3 → r ≡ twoAt (lent s (p - 1)) 4 → m ≡ twoAt (lent s (p - 1)) 2 → r ≤ R
+      → back R (blocksOf n s) i p ≡ hitIn i r (left (lent s (p - 1)) 16 m 0) (back R (blocksOf n s) i (p - 1))
+  back-into r m k er em g =
+      let l = lent s (p - 1) in
+      into
+      ∙ ap (λ (b : Block). inBlock R i b (back R (blocksOf n s) i (p - 1))) (parse-commit l k)
+      ∙ ap₂ (λ (x y : ℕ). cond (ltb R x) (back R (blocksOf n s) i (p - 1)) (hitIn i x (parseLines y (drop 16 l)) (back R (blocksOf n s) i (p - 1)))) (sym er) (sym em)
+      ∙ rw (le-ltb R r g) refl
+      ∙ ap (λ (x : List Line). hitIn i r x (back R (blocksOf n s) i (p - 1))) (sym (left-all l 16 m))
 
 -- change by change
 module _ (l : List ℕ) (i r m j : ℕ) (older : Found) where

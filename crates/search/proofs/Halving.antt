@@ -31,8 +31,8 @@ unfoldable pub backAll : List Block → ℕ → ℕ → Found
 backAll bs i zero = nowhere
 backAll bs i (suc b) = inAny i (getD bs b blank) (backAll bs i b)
 
--- a commit after R is passed over
-passed-over : (R i : ℕ) (b : Block) (older : Found) → (kindOf b ≡ 3 → R < stating b) → inBlock R i b older ≡ older
+-- what is no commit up to R is passed over
+pub passed-over : (R i : ℕ) (b : Block) (older : Found) → (kindOf b ≡ 3 → R < stating b) → inBlock R i b older ≡ older
 passed-over R i label older h = refl
 passed-over R i (content r b) older h = refl
 passed-over R i (commit r s t ls) older h = rw (lt-ltb R r (h refl)) refl
@@ -79,15 +79,17 @@ module _ (s : Bytes) (n used : ℕ) (A : Accepted s n used) (r : ℕ) where
         let e = era-mark bs (p - 1) (ap kindOf (block-at used (p - 1) s (omega arith)) ∙ k) in
         omega (arith, e, ap (eraAt bs) d)
 
-    pub bound-here : (v : ℕ) → (kindOf (parse (lent s (p - 1))) ≡ 4 → ⊥) → v ≡ twoAt (lent s (p - 1)) 4 → v ≤ r → Bound bs used r p
-    bound-here v k e m =
-        let w = rev-at s used used P (p - 1) (omega arith) (omega arith) k in
+    bound-at : eraAt bs (p - 1) ≤ r → Bound bs used r p
+    bound-at m =
         record {
           low = omega arith;
           high = g;
-          before = λ q x y. omega (arith, w, era-more bs q (p - 1) (omega arith));
+          before = λ q x y. omega (arith, era-more bs q (p - 1) (omega arith));
           after = λ q x y. omega (arith, era-more bs p q x);
         }
+
+    pub bound-here : (v : ℕ) → (kindOf (parse (lent s (p - 1))) ≡ 4 → ⊥) → v ≡ twoAt (lent s (p - 1)) 4 → v ≤ r → Bound bs used r p
+    bound-here v k e m = bound-at (omega (arith, rev-at s used used P (p - 1) (omega arith) (omega arith) k))
 
   pub bound-first : r < eraAt bs 1 → Bound bs used r 1
   bound-first l = record { low = omega arith; high = used-low s used used P; before = λ q x y. absurd (omega arith); after = λ q x y. omega (arith, era-more bs 1 q x) }
@@ -100,15 +102,11 @@ module _ (s : Bytes) (n used : ℕ) (A : Accepted s n used) (r : ℕ) where
   bound-of (suc (suc p)) h g l =
       elim (lt-or-ge r (eraAt bs (suc p))) [
         | inl e ↦ (let w = bound-of (suc p) (omega arith) (omega arith) e in (w .0, w .1, omega (arith, w .2)))
-        | inr o ↦ (
-          suc (suc p),
-          record { low = h; high = g; before = λ q x y. omega (arith, o, era-more bs q (suc p) (omega arith)); after = λ q x y. omega (arith, era-more bs (suc (suc p)) q x) },
-          omega arith,
-        )
+        | inr o ↦ (let e : suc (suc p) - 1 ≡ suc p = omega arith in (suc (suc p), bound-at (suc (suc p)) (omega arith) g l (omega (arith, ap (eraAt bs) e)), omega arith))
       ]
 
   commit-era : (p : ℕ) → p < used → kindOf (getD bs p blank) ≡ 3 → (1 ≤ p) × (stating (getD bs p blank) ≡ eraAt bs p)
-  commit-era p g k = let h = after-label s used used P p k in (h, era-stated s used used P p h g (λ e. absurd (omega (arith, k, e))))
+  commit-era p g k = let h = after-label s used used P p k in (h, era-stated s used used P p h g .1 (λ e. absurd (omega (arith, k, e))))
 
   module _ (i b : ℕ) (G : Bound bs used r b) where
     back-over : (k : ℕ) → b + k ≤ used → back r bs i (b + k) ≡ back r bs i b

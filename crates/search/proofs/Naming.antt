@@ -134,7 +134,7 @@ back-names look bs t i h (suc b) g =
     let e = take-suc bs b blank m in
     let k = kinds look 1 0 (replicate 32 0 ∷ []) bs t b (omega arith) in
     one-more look i h (take b bs) (getD bs b blank) (backAll (label ∷ bs) i (suc b)) (solid-take look 1 0 (replicate 32 0 ∷ []) bs t b (omega arith)) k
-    (states look 1 0 (replicate 32 0 ∷ []) bs t b (omega arith)) (back-names look bs t i h b (omega arith))
+    (states look 1 0 (replicate 32 0 ∷ []) bs t b (omega arith) .1) (back-names look bs t i h b (omega arith))
     ∙ ap (λ (x : List Block). namerFrom 0 0 (readFrom look x) i) (sym e)
 
 -- THE STATEMENT: before the bound of r the search finds the revision of the last commit up to r that names the sheet

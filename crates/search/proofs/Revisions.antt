@@ -67,7 +67,7 @@ abbrev pub stating : Block → ℕ
 stating label = 0
 stating (content r b) = r
 stating (commit r s t ls) = r
-stating (mark m) = 0
+stating (mark (released r seat stamp)) = r
 stating blank = 0
 
 -- the table after the commits of a list
@@ -129,54 +129,30 @@ unfolding okFrom
 after-mark look at k tables m bs t =
     and-true (stands tables m) (okFrom look (suc at) 0 tables bs) (and-true (eqb k 0) (stands tables m && okFrom look (suc at) 0 tables bs) t .1) .1
 
--- a content or a commit block states one more than the commits before it
+-- a content or a commit block states one more than the commits before it, and a mark no more than that
 pub states : (look : ℕ → List ℕ) (at k : ℕ) (tables : List Table) (bs : List Block) → T (okFrom look at k tables bs) → (p : ℕ) → p < usedIn bs
-    → (kindOf (getD bs p blank) ≡ 4 → ⊥) → stating (getD bs p blank) ≡ length tables + count (take p bs)
+    → (stating (getD bs p blank) ≤ length tables + count (take p bs)) × ((kindOf (getD bs p blank) ≡ 4 → ⊥) → stating (getD bs p blank) ≡ length tables + count (take p bs))
 unfolding okFrom
-states look at k tables [] t p h d = absurd (omega arith)
-states look at k tables (label ∷ bs) t p h d = absurd t
-states look at k tables (blank ∷ bs) t p h d = absurd (omega arith)
-states look at k tables (content r b ∷ bs) t zero h d =
-    let e = eqb→eq r (length tables) (and-true (eqb r (length tables)) (okFrom look at (suc k) tables bs) t .0) in omega arith
-states look at k tables (content r b ∷ bs) t (suc p) h d =
-    states look at (suc k) tables bs (and-true (eqb r (length tables)) (okFrom look at (suc k) tables bs) t .1) p (omega arith) d
-states look at k tables (commit r s q ls ∷ bs) t zero h d =
-    let e = eqb→eq r (length tables) (and-true (eqb r (length tables)) (laid look at k tables s ls && okFrom look (suc (at + k)) 0 (grown tables ls) bs) t .0) in omega arith
-states look at k tables (commit r s q ls ∷ bs) t (suc p) h d =
+states look at k tables [] t p h = absurd (omega arith)
+states look at k tables (label ∷ bs) t p h = absurd t
+states look at k tables (blank ∷ bs) t p h = absurd (omega arith)
+states look at k tables (content r b ∷ bs) t zero h =
+    let e = eqb→eq r (length tables) (and-true (eqb r (length tables)) (okFrom look at (suc k) tables bs) t .0) in (omega arith, (λ d. omega arith))
+states look at k tables (content r b ∷ bs) t (suc p) h = states look at (suc k) tables bs (and-true (eqb r (length tables)) (okFrom look at (suc k) tables bs) t .1) p (omega arith)
+states look at k tables (commit r s q ls ∷ bs) t zero h =
+    let e = eqb→eq r (length tables) (and-true (eqb r (length tables)) (laid look at k tables s ls && okFrom look (suc (at + k)) 0 (grown tables ls) bs) t .0) in
+    (omega arith, (λ d. omega arith))
+states look at k tables (commit r s q ls ∷ bs) t (suc p) h =
     let u = and-true (eqb r (length tables)) (laid look at k tables s ls && okFrom look (suc (at + k)) 0 (grown tables ls) bs) t .1 in
-    let i = states look (suc (at + k)) 0 (grown tables ls) bs (and-true (laid look at k tables s ls) (okFrom look (suc (at + k)) 0 (grown tables ls) bs) u .1) p (omega arith) d in
-    i ∙ omega (arith, length-append tables (next ls (latest tables) ∷ []))
-states look at k tables (mark m ∷ bs) t zero h d = absurd (d refl)
-states look at k tables (mark m ∷ bs) t (suc p) h d = states look (suc at) 0 tables bs (after-mark look at k tables m bs t) p (omega arith) d
-
--- a mark states none that is later than the commits before it
-abbrev marking : Block → ℕ
-marking label = 0
-marking (content r b) = 0
-marking (commit r s t ls) = 0
-marking (mark (released r seat stamp)) = r
-marking blank = 0
-
-marks-low : (look : ℕ → List ℕ) (at k : ℕ) (tables : List Table) (bs : List Block) → T (okFrom look at k tables bs) → (p : ℕ) → p < usedIn bs
-    → marking (getD bs p blank) ≤ length tables + count (take p bs)
-unfolding okFrom
-marks-low look at k tables [] t p h = absurd (omega arith)
-marks-low look at k tables (label ∷ bs) t p h = absurd t
-marks-low look at k tables (blank ∷ bs) t p h = absurd (omega arith)
-marks-low look at k tables (content r b ∷ bs) t zero h = omega arith
-marks-low look at k tables (content r b ∷ bs) t (suc p) h =
-    marks-low look at (suc k) tables bs (and-true (eqb r (length tables)) (okFrom look at (suc k) tables bs) t .1) p (omega arith)
-marks-low look at k tables (commit r s q ls ∷ bs) t zero h = omega arith
-marks-low look at k tables (commit r s q ls ∷ bs) t (suc p) h =
-    let u = and-true (eqb r (length tables)) (laid look at k tables s ls && okFrom look (suc (at + k)) 0 (grown tables ls) bs) t .1 in
-    let i = marks-low look (suc (at + k)) 0 (grown tables ls) bs (and-true (laid look at k tables s ls) (okFrom look (suc (at + k)) 0 (grown tables ls) bs) u .1) p (omega arith) in
-    omega (arith, i, length-append tables (next ls (latest tables) ∷ []))
-marks-low look at k tables (mark (released r seat stamp) ∷ bs) t zero h =
+    let i = states look (suc (at + k)) 0 (grown tables ls) bs (and-true (laid look at k tables s ls) (okFrom look (suc (at + k)) 0 (grown tables ls) bs) u .1) p (omega arith) in
+    let g = length-append tables (next ls (latest tables) ∷ []) in
+    (omega (arith, i .0, g), (λ d. i .1 d ∙ omega (arith, g)))
+states look at k tables (mark (released r seat stamp) ∷ bs) t zero h =
     let m = released r seat stamp in
     let u = and-true (stands tables m) (okFrom look (suc at) 0 tables bs) (and-true (eqb k 0) (stands tables m && okFrom look (suc at) 0 tables bs) t .1) .0 in
     let v = and-true (leb 1 r && ltb r (length tables)) (leb 1 seat && leb seat 4) u .0 in
-    omega (arith, ltb→lt r (length tables) (and-true (leb 1 r) (ltb r (length tables)) v .1))
-marks-low look at k tables (mark m ∷ bs) t (suc p) h = marks-low look (suc at) 0 tables bs (after-mark look at k tables m bs t) p (omega arith)
+    (omega (arith, ltb→lt r (length tables) (and-true (leb 1 r) (ltb r (length tables)) v .1)), (λ d. absurd (d refl)))
+states look at k tables (mark m ∷ bs) t (suc p) h = states look (suc at) 0 tables bs (after-mark look at k tables m bs t) p (omega arith)
 
 -- all commits stand in the blocks in use
 counts-all : (look : ℕ → List ℕ) (bs : List Block) → length (readFrom look bs) ≤ count (take (usedIn bs) bs)
@@ -247,11 +223,14 @@ kinds look at k tables (commit r s q ls ∷ bs) t (suc p) h =
 kinds look at k tables (mark m ∷ bs) t zero h = omega arith
 kinds look at k tables (mark m ∷ bs) t (suc p) h = kinds look (suc at) 0 tables bs (after-mark look at k tables m bs t) p (omega arith)
 
-stating-two : (l : List ℕ) → 2 ≤ kindOf (parse l) → (kindOf (parse l) ≡ 4 → ⊥) → stating (parse l) ≡ twoAt l 4
-stating-two l h d =
+stating-two : (l : List ℕ) → 2 ≤ kindOf (parse l) → stating (parse l) ≡ twoAt l 4
+stating-two l h =
     elim (eq-or (kindOf (parse l)) 2) [
       | inl e ↦ ap stating (parse-content l e)
-      | inr o ↦ ap stating (parse-commit l (omega (arith, parse-low l, o, d)))
+      | inr o ↦ elim (eq-or (kindOf (parse l)) 3) [
+        | inl e ↦ ap stating (parse-commit l e)
+        | inr q ↦ ap stating (parse-mark l (omega (arith, parse-low l, o, q)))
+      ]
     ]
 
 module _ (s : List ℕ) (n used : ℕ) (A : Passed s n used) where
@@ -289,13 +268,15 @@ module _ (s : List ℕ) (n used : ℕ) (A : Passed s n used) where
   block-rest : (p : ℕ) → getD (blocksOf n s) (suc p) blank ≡ getD rest p blank
   block-rest p = ap (λ (x : List Block). getD x (suc p) blank) whole
 
-  -- the revision that block p states, where it is no mark
-  pub era-stated : (p : ℕ) → 1 ≤ p → p < used → (kindOf (getD (blocksOf n s) p blank) ≡ 4 → ⊥) → stating (getD (blocksOf n s) p blank) ≡ eraAt (blocksOf n s) p
-  era-stated zero h g d = absurd (omega arith)
-  era-stated (suc p) h g d =
-      ap stating (block-rest p)
-      ∙ states (bytesAt (blocksOf n s)) 1 0 (replicate 32 0 ∷ []) rest (opened (blocksOf n s) okAll .2) p (omega (arith, used-is)) (λ e. d (ap kindOf (block-rest p) ∙ e))
-      ∙ sym (ap (λ (x : List Block). eraAt x (suc p)) whole)
+  -- what block p states: its era, and a mark no later one
+  pub era-stated : (p : ℕ) → 1 ≤ p → p < used
+      → (stating (getD (blocksOf n s) p blank) ≤ eraAt (blocksOf n s) p) × ((kindOf (getD (blocksOf n s) p blank) ≡ 4 → ⊥) → stating (getD (blocksOf n s) p blank) ≡ eraAt (blocksOf n s) p)
+  era-stated zero h g = absurd (omega arith)
+  era-stated (suc p) h g =
+      let b = block-rest p in
+      let e : eraAt (blocksOf n s) (suc p) ≡ 1 + count (take p rest) = ap (λ (x : List Block). eraAt x (suc p)) whole in
+      let w = states (bytesAt (blocksOf n s)) 1 0 (replicate 32 0 ∷ []) rest (opened (blocksOf n s) okAll .2) p (omega (arith, used-is)) in
+      (omega (arith, ap stating b, e, w .0), (λ d. ap stating b ∙ w .1 (λ x. d (ap kindOf b ∙ x)) ∙ sym e))
 
   used-kind : (p : ℕ) → 1 ≤ p → p < used → 2 ≤ kindOf (getD (blocksOf n s) p blank)
   used-kind zero h g = absurd (omega arith)
@@ -303,27 +284,19 @@ module _ (s : List ℕ) (n used : ℕ) (A : Passed s n used) where
       subst (λ (x : Block). 2 ≤ kindOf x) (sym (block-rest p))
       (kinds (bytesAt (blocksOf n s)) 1 0 (replicate 32 0 ∷ []) rest (opened (blocksOf n s) okAll .2) p (omega (arith, used-is)))
 
-  block-lent : (p : ℕ) → p < used → getD (blocksOf n s) p blank ≡ parse (lent s p)
-  block-lent p g = block-at n p s (omega (arith, used-high))
+  -- the same by its bytes
+  module _ (p : ℕ) (h : 1 ≤ p) (g : p < used) where
+    lent-is-block : parse (lent s p) ≡ getD (blocksOf n s) p blank
+    lent-is-block = sym (block-at n p s (omega (arith, used-high)))
 
-  pub rev-at : (p : ℕ) → 1 ≤ p → p < used → (kindOf (parse (lent s p)) ≡ 4 → ⊥) → twoAt (lent s p) 4 ≡ eraAt (blocksOf n s) p
-  rev-at p h g d =
-      let b = block-lent p g in
-      sym (stating-two (lent s p) (subst (λ (x : Block). 2 ≤ kindOf x) b (used-kind p h g)) d) ∙ ap stating (sym b) ∙ era-stated p h g (λ e. d (ap kindOf (sym b) ∙ e))
+    stated-at : twoAt (lent s p) 4 ≡ stating (getD (blocksOf n s) p blank)
+    stated-at = sym (stating-two (lent s p) (subst (λ (x : Block). 2 ≤ kindOf x) (sym lent-is-block) (used-kind p h g))) ∙ ap stating lent-is-block
 
-  -- .. and where it is one, none that is later
-  mark-low : (p : ℕ) → 1 ≤ p → p < used → marking (getD (blocksOf n s) p blank) ≤ eraAt (blocksOf n s) p
-  mark-low zero h g = absurd (omega arith)
-  mark-low (suc p) h g =
-      let e : eraAt (blocksOf n s) (suc p) ≡ 1 + count (take p rest) = ap (λ (x : List Block). eraAt x (suc p)) whole in
-      omega (arith, ap marking (block-rest p), e, marks-low (bytesAt (blocksOf n s)) 1 0 (replicate 32 0 ∷ []) rest (opened (blocksOf n s) okAll .2) p (omega (arith, used-is)))
+    pub rev-at : (kindOf (parse (lent s p)) ≡ 4 → ⊥) → twoAt (lent s p) 4 ≡ eraAt (blocksOf n s) p
+    rev-at d = stated-at ∙ era-stated p h g .1 (λ e. d (ap kindOf lent-is-block ∙ e))
 
-  pub rev-low : (p : ℕ) → 1 ≤ p → p < used → twoAt (lent s p) 4 ≤ eraAt (blocksOf n s) p
-  rev-low p h g =
-      elim (eq-or (kindOf (parse (lent s p))) 4) [
-        | inl e ↦ omega (arith, mark-low p h g, ap marking (block-lent p g ∙ parse-mark (lent s p) e))
-        | inr o ↦ omega (arith, rev-at p h g o)
-      ]
+    pub rev-low : twoAt (lent s p) 4 ≤ eraAt (blocksOf n s) p
+    rev-low = omega (arith, stated-at, era-stated p h g .0)
 
   history-count : length (historyOf n s) ≤ count (take (usedIn rest) rest)
   unfolding historyOf

@@ -5,7 +5,7 @@ use mathlib.Core.Path.{_∙_, _≡_, refl, sym}
 use native.Mathlib.Omega.{arith}
 use borrow.Author.Needs.{needs}
 use Rattle.model.specs.Store.{blocksOf}
-use Rattle.search.proofs.BackLaws.{back-into, back-later, back-none, back-skip, few-changes, hit-here, hit-next, hit-none}
+use Rattle.search.proofs.BackLaws.{back-into, back-none, back-skip, few-changes, hit-here, hit-next, hit-none}
 use Rattle.search.proofs.Revisions.{passed}
 use Rattle.search.proofs.find.Statement.{statement}
 use Rattle.search.specs.Find.{back, hitIn, nowhere}
@@ -63,7 +63,7 @@ search-again c =
     let a = c .before .before .before .before .before .before .args in
     let P = passed (a .store .now) (a .n) (a .used) (c .before .before .before .before .before .before .pre .0) in
     let l = c .before .before .before .before .search in
-    (l .inv .0, omega arith, l .inv .2 ∙ back-skip (a .r) (a .used) (a .store .now) (a .i) (l .p) (omega arith) (omega arith) (λ q. c .if1 .taken (c .before .kind .ensures ∙ q)))
+    (l .inv .0, omega arith, l .inv .2 ∙ back-skip (a .r) (a .used) (a .store .now) (a .i) (l .p) (omega arith) (omega arith) (λ q. absurd (c .if1 .taken (c .before .kind .ensures ∙ q))))
 
 two-at-requires : tie.Need-two-at-requires Inv-changes μ-changes Inv-search μ-search
 two-at-requires c κs = search needs
@@ -81,8 +81,7 @@ search-again-2 c =
     let l = c .before .before .before .before .before .before .search in (
       l .inv .0,
       omega arith,
-      l .inv .2 ∙ back-later (a .r) (a .used) (a .store .now) (a .i) (l .p) (omega arith) (omega arith) (c .before .two-at .result)
-          (sym (c .before .before .before .kind .ensures) ∙ c .before .before .if1 .left) (c .before .two-at .ensures .0) (omega arith),
+      l .inv .2 ∙ back-skip (a .r) (a .used) (a .store .now) (a .i) (l .p) (omega arith) (omega arith) (λ q. omega (arith, c .before .two-at .ensures .0)),
     )
 
 two-at-requires-2 : tie.Need-two-at-requires-2 Inv-changes μ-changes Inv-search μ-search
@@ -100,8 +99,8 @@ changes-holds c =
     let few = few-changes (a .used) (l .p - 1) (a .store .now) (P .laws) (omega arith) k in (
       l .inv .0,
       (omega arith, omega (arith, few, c .two-at2 .ensures .0)),
-      l .inv .2 ∙ back-into (a .r) (a .used) (a .store .now) (a .i) (l .p) (omega arith) (omega arith) (c .before .before .two-at .result) k
-          (c .before .before .two-at .ensures .0) (c .two-at2 .result) (omega arith) (c .two-at2 .ensures .0),
+      l .inv .2 ∙ back-into (a .r) (a .used) (a .store .now) (a .i) (l .p) (omega arith) (omega arith) (c .before .before .two-at .result) (c .two-at2 .result) k
+          (c .before .before .two-at .ensures .0) (c .two-at2 .ensures .0) (omega arith),
     )
 
 search-less-3 : tie.Need-search-less-3 Inv-changes μ-changes Inv-search μ-search
