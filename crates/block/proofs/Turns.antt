@@ -2,7 +2,7 @@
 -- Assumes nothing.
 use Prim.Native.Nat.{ℕ, suc, ◌+◌, ◌%◌, ◌≤◌, ◌<◌, min}
 use mathlib.Core.Path.{◌≡◌, sym, ap, ap₂, ◌∙◌}
-use mathlib.Core.Bool.{Bool, ◌&&◌, and_assoc, and_true}
+use mathlib.Core.Bool.{Bool, ◌&&◌, and_assoc, and-true}
 use mathlib.Core.List.{List, ◌∷◌}
 use native.Mathlib.Nat.{mod-add-mod, add-mod-mod}
 use native.Mathlib.Numerals.{add-one}
@@ -50,4 +50,4 @@ module _ (l : List ℕ) (i : ℕ) where
       ∙ rw (drop-cons l i 0 h, add-one i)
 
   pub zero-done : (any : ℕ) → length l ≤ i → (eqb any 0 && is_zero (drop i l)) ≡ eqb any 0
-  zero-done any h = rw (drop_of_length-le l {i = i} h) (and_true (eqb any 0))
+  zero-done any h = rw (drop_of_length-le l {i = i} h) (and-true (eqb any 0))

@@ -1,5 +1,7 @@
 // Blocks of 512 bytes: fields, the two sums, check and seal. Every function is total: a byte past the end reads as 0 and is not written, and a block that is
 // not whole is not sealed.
+#![tactic(auto)]
+
 ghost use Rattle.std.specs.Prelude.{◌≡◌, ◌+◌, ◌-◌, ◌*◌, ◌≤◌, ◌<◌, length, get_or, replicate, set, take};
 ghost use Rattle.block.specs.Field.{two_at, four_at, with_two, with_four};
 ghost use Rattle.block.specs.Check.{sums, sealed, seal_of, is_zero};
@@ -117,7 +119,7 @@ pub fn clear(s: &mut [u8], from: usize, to: usize)
     }
 }
 
-#[derive(Drop)]
+#[derive(Clone, Copy)]
 pub struct Sums {
     pub a: u32,
     pub b: u32,
@@ -132,7 +134,7 @@ fn word(s: &[u8], k: usize) -> u32
 }
 
 // What the four bytes from k on add: the first, and the third 65,536 times; the second, and the fourth 65,536 times; all four.
-#[derive(Drop)]
+#[derive(Clone, Copy)]
 struct Four {
     even: u32,
     odd: u32,

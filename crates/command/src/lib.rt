@@ -1,4 +1,6 @@
 // A line of text as a call of the machine.
+#![tactic(auto)]
+
 ghost use Rattle.std.specs.Prelude.{◌/◌, ◌≤◌, ℕ, List, ◌≡◌, length};
 ghost use Rattle.block.specs.Write.{written};
 ghost use Rattle.text.specs.Text.{HexFits, hexed, numbered, words};
@@ -7,7 +9,7 @@ ghost use Rattle.command.specs.Command.{CallFits, LineFits, call_in, four_of, fo
 use text::{Hex, Num};
 
 // The first word of a line.
-#[derive(Drop)]
+#[derive(Clone, Copy)]
 pub enum Key {
     Add,
     Set,
@@ -21,7 +23,7 @@ pub enum Key {
 }
 
 // A call of a seat. Add and Edit have a sheet and a number of bytes, which stand at the start of a buffer; Copy and Move two sheets; Commit a stamp; Update a revision.
-#[derive(Drop)]
+#[derive(Clone, Copy)]
 pub enum Call {
     Add(u32, usize),
     Edit(u32, usize),
@@ -33,7 +35,7 @@ pub enum Call {
 }
 
 // What a line says: a seat and its call, the revision and the sheet to get, or none of these.
-#[derive(Drop)]
+#[derive(Clone, Copy)]
 pub enum Line {
     By(u32, Call),
     Get(u32, u32),

@@ -1,11 +1,13 @@
 // The inner commit: its lines from the chosen entries of a working copy, and their writing. The store and the copy are known to be accepted, and it is known which
 // entries differ from their base or source.
+#![tactic(auto)]
+
 ghost use Rattle.std.specs.Prelude.{◌<◌, ◌≤◌, ◌≡◌, length};
 ghost use Rattle.commits.specs.Outcome.{Answered, Asked};
 ghost use Rattle.commits.specs.Plan.{Planned, RowHas, RowIs, row_of, rows_from};
 
 // How an entry is written: its line but for the sheet, action 0 where it has none, and the next block after it.
-#[derive(Drop)]
+#[derive(Clone, Copy)]
 struct Row {
     action: u8,
     block: u16,
@@ -67,7 +69,7 @@ fn row_of<'a>(
 }
 
 // The lines of a commit, how many there are, and the block that follows its content blocks.
-#[derive(Drop)]
+#[derive(Clone, Copy)]
 struct Plan {
     lines: [writer::Line; 32],
     count: usize,
@@ -124,7 +126,7 @@ fn make_plan<'a>(
 }
 
 // The blocks in use afterwards; refusal 10; refusal 13; that it stopped.
-#[derive(Drop)]
+#[derive(Clone, Copy)]
 pub enum Outcome {
     Done(usize),
     Nothing,

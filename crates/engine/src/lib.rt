@@ -2,6 +2,8 @@
 // checks what it is handed in the document's order, and either does its work or answers the refusal and leaves every buffer unchanged.
 // Each promise is one equation with the call's meaning in crates/model/specs/Calls.antt, of the commit through the record in crates/turns/specs/InTurn.antt. `call` takes any of the
 // others as one request (specs/Request.antt).
+#![tactic(auto)]
+
 ghost use Rattle.std.specs.Prelude.{[], ◌≡◌};
 ghost use Rattle.model.specs.Calls.{add_call, clear_call, clear_cut_call, commit_call, commit_cut_call, copy_call, create_copy, create_store, delete_call, edit_call, log_call, move_call, out, panel_place, part_of, read_place, release_call, revert_call, show_place, size_condition, status_call, update_call};
 ghost use Rattle.model.specs.Types.{action_number, answer_of, created_as, number_of, place_of, source_revision, source_sheet};
@@ -352,7 +354,7 @@ pub fn release(store: &mut [u8], revision: u32, seat: u32, stamp: u32) -> Answer
 // ---- any call
 
 // A request: create of the store, create of the copy for a seat, or a call.
-#[derive(Drop)]
+#[derive(Clone, Copy)]
 pub enum Request {
     CreateStore,
     CreateCopy(u32),

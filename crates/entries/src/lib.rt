@@ -1,4 +1,6 @@
 // The entries of a working copy held against an accepted store: whether the copy fits, and what each entry is. Inner functions but for `check`, which takes any two buffers.
+#![tactic(auto)]
+
 ghost use Rattle.std.specs.Prelude.{◌<◌, ◌≤◌, not, ◌≡◌};
 ghost use Rattle.std.proofs.Math.Option.{none};
 ghost use Rattle.model.specs.Calls.{store_conditions};
@@ -21,7 +23,7 @@ use search::Found;
 use store::Header;
 
 // What is known of two buffers that are accepted: the store's blocks, its used blocks and last revision, and the copy's seat.
-#[derive(Drop)]
+#[derive(Clone, Copy)]
 pub struct View {
     pub n: usize,
     pub used: usize,
@@ -75,7 +77,7 @@ pub fn fits<'a>(store: &'a [u8], copy: &'a [u8], v: View) -> bool
     true
 }
 
-#[derive(Drop)]
+#[derive(Clone, Copy)]
 pub enum Checked {
     Refused(Refusal),
     Ready(View),
@@ -265,7 +267,7 @@ pub fn status_at<'a>(store: &'a [u8], copy: &'a [u8], v: View, i: usize) -> Stan
 }
 
 // What update makes of an entry: a conflict; it stays; it becomes empty; it becomes normal with the bytes of a block of the store; it keeps its bytes and gets the new base.
-#[derive(Drop)]
+#[derive(Clone, Copy)]
 pub enum Update {
     Conflict,
     Stay,

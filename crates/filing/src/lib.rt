@@ -1,5 +1,7 @@
 // The commit of a working copy that fits an accepted store: which chosen entries are changed and where a copy's source stands, refusals 7, 10, 11 and 13, the writing,
 // whole or stopped after n block writes, and what it leaves in the copy. The chosen sheets are visited by trailing zeros.
+#![tactic(auto)]
+
 ghost use Rattle.std.specs.Prelude.{◌<◌, ◌≡◌, length, set};
 ghost use Rattle.commits.specs.Outcome.{RightFlags};
 ghost use Rattle.entries.specs.View.{Fitting, entry_in};
@@ -72,7 +74,7 @@ fn place_of<'a>(store: &'a [u8], copy: &'a [u8], v: View, k: usize) -> u16
 }
 
 // For each sheet 1 where its entry differs from its base or source, else 0; and the block that its entry's source uses.
-#[derive(Drop)]
+#[derive(Clone, Copy)]
 struct Flags {
     changed: [u8; 32],
     places: [u16; 32],
@@ -156,7 +158,7 @@ fn settle(copy: &mut [u8], mask: u32, revision: u32, changed: &[u8])
 // ---- the commit
 
 // The answer of a commit, and the store's blocks in use and last revision then.
-#[derive(Drop)]
+#[derive(Clone, Copy)]
 pub struct Filed {
     pub answer: Answer,
     pub used: usize,

@@ -1,4 +1,6 @@
 // The twelve handover cases of document 01, run on the engine: each case and its result, a line each. The file stdout has the document's table.
+#![tactic(auto)]
+
 use model::{Answer, Place};
 use store::Opened;
 

@@ -1,7 +1,7 @@
 -- A release and a panel's reading on a store that is open: what the meanings answer and leave, one way through at a time.
 -- Assumes nothing.
 use Prim.Native.Nat.{◌*◌, ◌+◌, ◌<◌, ◌^◌, ◌≤◌, ℕ}
-use mathlib.Core.Bool.{Bool, ◌&&◌, ◌||◌, false, not, or_true, true}
+use mathlib.Core.Bool.{Bool, ◌&&◌, ◌||◌, false, not, or-true, true}
 use mathlib.Core.List.{List, [], ◌∷◌}
 use mathlib.Core.Option.{Option, none, some}
 use mathlib.Core.Path.{◌∙◌, ◌≡◌, ap, ap₂, refl, subst, sym}
@@ -53,7 +53,7 @@ seat-one : (s : ℕ) (t : Bool) → 1 ≤ s → s ≤ 4 → t ≡ (no_seat s || 
 seat-one s t l g = sym (ap₂ (λ (a b : Bool). not (a && b) || t) (le-leb 1 s l) (le-leb s 4 g))
 
 pub revision_late : (s R n : ℕ) → 1 ≤ s → s ≤ 4 → n < R → true ≡ (no_seat s || (eqb R 0 || ltb n R))
-revision_late s R n l g h = sym (ap (λ (b : Bool). eqb R 0 || b) (lt-ltb n R h) ∙ or_true (eqb R 0)) ∙ seat-one s (eqb R 0 || ltb n R) l g
+revision_late s R n l g h = sym (ap (λ (b : Bool). eqb R 0 || b) (lt-ltb n R h) ∙ or-true (eqb R 0)) ∙ seat-one s (eqb R 0 || ltb n R) l g
 
 pub revision-none : (s R n : ℕ) → 1 ≤ s → s ≤ 4 → R ≤ n → eqb R 0 ≡ (no_seat s || (eqb R 0 || ltb n R))
 revision-none s R n l g h = sym (ap (λ (b : Bool). eqb R 0 || b) (le-ltb n R h) ∙ or_nothing (eqb R 0)) ∙ seat-one s (eqb R 0 || ltb n R) l g
@@ -109,7 +109,7 @@ module _ (store : Bytes) (h : Header) (e : open_of store ≡ Open h) where
         sym
         (ap (λ (o : Option ℕ). place_by o (found_place store (panel_revision (store_marks store) R) i)) (store_open store (Panel R i) accepted)
         ∙ ap (λ (b : Bool). place_by (first_of (7 when b ∷ 8 when not (present (panel_sheet d R i)) ∷ [])) (found_place store (panel_revision (store_marks store) R) i))
-        (ap (λ (b : Bool). no_sheet i || b) late ∙ or_true (no_sheet i)))
+        (ap (λ (b : Bool). no_sheet i || b) late ∙ or-true (no_sheet i)))
 
     pub panel_at : R ≤ h.last → {r : ℕ} → r ≡ panel_revision (marks (log_all (blocks_of h.used store))) R → read_place store r i ≡ panel_place store R i
     panel_at g {r} q =

@@ -1,4 +1,6 @@
 // The inner calls: on a store known to be accepted and, where they take one, a working copy known to fit it. Nothing is checked again.
+#![tactic(auto)]
+
 ghost use Rattle.std.specs.Prelude.{◌||◌, [], ◌≡◌, eqb, ltb};
 ghost use Rattle.entries.specs.View.{Fitting};
 ghost use Rattle.inner.specs.Performs.{CommitsAs, Performs, ReleasesAs, call_of, stay_as, unmoved_as};
@@ -16,7 +18,7 @@ use store::Header;
 
 // A call with its numbers: the sheet (add and edit take bytes beside it), from and to, stamp and mask, mask and revision, revision and sheet; of a cut call also the number of
 // block writes that it stops after; of a release revision, seat and stamp.
-#[derive(Drop)]
+#[derive(Clone, Copy)]
 pub enum Call {
     Add(u32),
     Edit(u32),
@@ -38,7 +40,7 @@ pub enum Call {
 }
 
 // What a call answers; read, a panel's reading and show, where the bytes stand.
-#[derive(Drop)]
+#[derive(Clone, Copy)]
 pub enum Reply {
     Said(Answer),
     At(Place),
@@ -234,7 +236,7 @@ pub fn release_in(store: &mut [u8], h: Header, revision: u32, seat: u32, stamp: 
 // ---- any call
 
 // What a call answered, and the store's blocks in use and last revision then.
-#[derive(Drop)]
+#[derive(Clone, Copy)]
 pub struct Performed {
     pub reply: Reply,
     pub used: usize,

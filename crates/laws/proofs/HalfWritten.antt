@@ -16,7 +16,7 @@ use Rattle.model.specs.Fitting.{fits_store}
 use Rattle.model.specs.HalfWritten.{Bare, Meanwhile, Unfinished}
 use Rattle.model.specs.History.{Bytes, History, last, namer}
 use Rattle.model.specs.Log.{marks, panel_revision}
-use Rattle.model.specs.Machine.{Add, Answer, Call, Clears, Commits, Copy, Delete, Edit, Log, Move, Panel, Read, Release, Revert, Show, Side, Status, Update, doing, done, entry, refused, with_tail}
+use Rattle.model.specs.Machine.{Add, Answer, Call, Clears, ClearsCut, Commits, CommitsCut, Copy, Delete, Edit, Log, Move, Panel, Read, Release, Revert, Show, Side, Status, Update, doing, done, entry, refused, with_tail}
 use Rattle.model.specs.Pass.{log_all, tables_of}
 use Rattle.model.specs.Refusals.{Clear, Condition, ◌when◌, conditions, first_of, tail_conditions}
 use Rattle.model.specs.Run.{asked, own_conditions}
@@ -51,6 +51,9 @@ blind store d t (Status i) m = record { before = refl; lines = refl; does = refl
 blind store d t (Log R i) m = record { before = refl; lines = refl; does = refl }
 blind store d t Clears m = absurd m
 blind store d t (Panel R i) m = record { before = refl; lines = refl; does = refl }
+blind store d t (CommitsCut stamp mask k) m = absurd m
+blind store d t (ClearsCut k) m = absurd m
+blind store d t (Release stamp R seat) m = absurd m
 
 -- what a call sees of a store, and of a copy with any seat and entries
 abbrev side : Bytes → ℕ → List Entry → Side
@@ -240,6 +243,9 @@ module _ (store : Bytes) (e : first_of (store_conditions store) ≡ none) where
     works (Log R i) m = look_one (Log R i) 0 [] m (store-lines (Log R i) m) (λ s p. ap (λ (x : Out). x.says) ((demand_one s copy).logs R i p))
     works Clears m = absurd m
     works (Panel R i) m = look_one (Panel R i) 0 [] m (store-lines (Panel R i) m) (λ s p. ap (λ (x : Out). x.says) ((demand_one s copy).panels R i p))
+    works (CommitsCut stamp mask k) m = absurd m
+    works (ClearsCut k) m = absurd m
+    works (Release stamp R seat) m = absurd m
 
 -- THE STATEMENT
 pub half_written : Unfinished

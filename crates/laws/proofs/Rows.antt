@@ -1,7 +1,7 @@
 -- Laws on Bools, and on rows: of `cond`, `rows`, `some-row`, `set`; and which rows a mask of zero chooses.
 -- Assumes nothing.
 use Prim.Native.Nat.{◌%◌, ◌+◌, ◌<◌, ◌^◌, suc, zero, ℕ}
-use mathlib.Core.Bool.{Bool, ◌&&◌, ◌||◌, cond, false, not, or_true, true}
+use mathlib.Core.Bool.{Bool, ◌&&◌, ◌||◌, cond, false, not, or-true, true}
 use mathlib.Core.List.{List, [], ◌∷◌}
 use mathlib.Core.Path.{◌≡◌, ap, ap₂, refl, sym}
 use native.Mathlib.Nat.{add-suc, add-zero, suc-add, zero-add, zero-div}
@@ -104,7 +104,7 @@ module _ {A : Type 0} (f : ℕ → A → Bool) (d : A) where
   some-row_from : (k : ℕ) (l : List A) (i : ℕ) → i < length l → f (k + i) (get_or l i d) ≡ true → some-row f k l ≡ true
   some-row_from k [] i h e = absurd (omega arith)
   some-row_from k (a ∷ l) zero h e = rw (rw add-zero at e)
-  some-row_from k (a ∷ l) (suc i) h e = rw (some-row_from (suc k) l i (omega arith) (rw (add-suc, ← suc-add) at e)) (or_true (f k a))
+  some-row_from k (a ∷ l) (suc i) h e = rw (some-row_from (suc k) l i (omega arith) (rw (add-suc, ← suc-add) at e)) (or-true (f k a))
 
   pub some-row_at : (l : List A) (i : ℕ) → i < length l → f i (get_or l i d) ≡ true → some-row f 0 l ≡ true
   some-row_at l i h e = some-row_from 0 l i h (rw zero-add e)

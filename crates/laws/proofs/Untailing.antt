@@ -1,7 +1,7 @@
 -- And back: a store that passes the tests is one with a tail, of what is read.
 -- Assumes nothing.
 use Prim.Native.Nat.{◌*◌, ◌+◌, ◌-◌, ◌<◌, ◌≤◌, suc, zero, ℕ}
-use mathlib.Core.Bool.{Bool, ◌&&◌, ◌||◌, and_assoc, and_true as and_right, cond, false, true}
+use mathlib.Core.Bool.{Bool, ◌&&◌, ◌||◌, and_assoc, and-true as and_right, cond, false, true}
 use mathlib.Core.List.{List, [], ◌++◌, ◌∷◌, append_assoc, append-nil, map}
 use mathlib.Core.Logic.{◌⊎◌, inl, inr}
 use mathlib.Core.Path.{◌∙◌, ◌≡◌, ap, ap₂, refl, subst, subst₂, sym}

@@ -1,1 +1,3 @@
 // Theorems only: see proofs/.
+#![tactic(auto)]
+

@@ -1,4 +1,6 @@
 // The calls that look at nothing of a store, on an accepted working copy: add, edit, delete, copy, move.
+#![tactic(auto)]
+
 ghost use Rattle.std.specs.Prelude.{ℕ, List, [], ◌≡◌};
 ghost use Rattle.local.specs.Local.{is_done, local_out, out};
 ghost use Rattle.model.specs.Entry.{is_empty};

@@ -1,7 +1,7 @@
 -- One turn of each walk over the blocks.
 -- Assumes nothing.
 use Prim.Native.Nat.{◌+◌, ◌<◌, ◌≤◌, suc, zero, ℕ}
-use mathlib.Core.Bool.{Bool, ◌&&◌, and_assoc, and_false, cond, false, not, true}
+use mathlib.Core.Bool.{Bool, ◌&&◌, and_assoc, and-false, cond, false, not, true}
 use mathlib.Core.List.{List, [], ◌∷◌}
 use mathlib.Core.Logic.{inl, inr}
 use mathlib.Core.Path.{◌∙◌, ◌≡◌, ap, refl, subst, sym}
@@ -159,7 +159,7 @@ marked seen i (x ∷ xs) h =
     elim (eq_or x i) [
       | inl e ↦
           let m : get_or (set seen i 1) x 0 ≡ 1 = ap (λ (k : ℕ). get_or (set seen i 1) k 0) e ∙ get_or-set_same seen i 1 0 h in
-          rw (m, eq-eqb x i e) (sym (and_false (unmarked seen (x ∷ xs))))
+          rw (m, eq-eqb x i e) (sym (and-false (unmarked seen (x ∷ xs))))
       | inr n ↦
           rw (get_or-set_other seen i x 1 0 n, ne_eqb x i n, marked seen i xs h)
           (sym (and_assoc (eqb (get_or seen x 0) 0) (unmarked seen xs) (not (among i xs))))

@@ -1,4 +1,6 @@
 // The releases of a store, each found by one walk over its blocks. Inner functions: each asks for blocks that are laid as commits and marks.
+#![tactic(auto)]
+
 ghost use Rattle.std.specs.Prelude.{◌*◌, ◌<◌, ◌≤◌, ◌≡◌, length};
 ghost use Rattle.model.specs.Blocks.{parse};
 ghost use Rattle.model.specs.Log.{among, marks, marks_ok, panel_revision, releases};

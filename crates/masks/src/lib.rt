@@ -1,4 +1,6 @@
 // A mask of sheets: bit i chooses sheet i.
+#![tactic(auto)]
+
 ghost use Rattle.std.specs.Prelude.{◌≡◌};
 ghost use Rattle.masks.specs.Mask.{count_to};
 

@@ -1,4 +1,6 @@
 // Inner functions for the bench alone: each asks for what its inner function asks for, so it is not for other callers.
+#![tactic(auto)]
+
 ghost use Rattle.std.specs.Prelude.{◌<◌, ◌≤◌, ◌≡◌};
 ghost use Rattle.entries.specs.View.{Fitting, entry_in};
 ghost use Rattle.model.specs.History.{last};

@@ -1,7 +1,9 @@
 // The types of the engine's arguments and answers. What each means in the document's numbers and values is defined in specs/Types.antt.
+#![tactic(auto)]
+
 
 // The lines of "When the engine says no", by their numbers.
-#[derive(Drop)]
+#[derive(Clone, Copy)]
 pub enum Refusal {
     StoreLength,
     StoreCheck,
@@ -22,14 +24,14 @@ pub enum Refusal {
 }
 
 // Where a copied entry comes from: sheet and revision.
-#[derive(Drop)]
+#[derive(Clone, Copy)]
 pub struct Source {
     pub sheet: u32,
     pub revision: u32,
 }
 
 // The state of an entry of a working copy; normal and deleted carry their base revision.
-#[derive(Drop)]
+#[derive(Clone, Copy)]
 pub enum State {
     Empty,
     Normal(u32),
@@ -39,14 +41,14 @@ pub enum State {
 }
 
 // An entry: its state, and how many bytes it has. The bytes stay in the working copy's buffer.
-#[derive(Drop)]
+#[derive(Clone, Copy)]
 pub struct Entry {
     pub state: State,
     pub len: usize,
 }
 
 // What a commit did to a sheet.
-#[derive(Drop)]
+#[derive(Clone, Copy)]
 pub enum Action {
     Nothing,
     Add,
@@ -56,7 +58,7 @@ pub enum Action {
 }
 
 // What log tells of a commit and a sheet; `changes` is the document's m.
-#[derive(Drop)]
+#[derive(Clone, Copy)]
 pub struct LogEntry {
     pub seat: u32,
     pub stamp: u32,
@@ -65,14 +67,14 @@ pub struct LogEntry {
 }
 
 // What status tells of a sheet: 0 to 8, and the last commit that names the sheet, 0 for none.
-#[derive(Drop)]
+#[derive(Clone, Copy)]
 pub struct Standing {
     pub status: u32,
     pub revision: u32,
 }
 
 // The answer of a call.
-#[derive(Drop)]
+#[derive(Clone, Copy)]
 pub enum Answer {
     Refused(Refusal),
     Done,
@@ -83,7 +85,7 @@ pub enum Answer {
 }
 
 // A part of a buffer: its first byte, and its length.
-#[derive(Drop)]
+#[derive(Clone, Copy)]
 pub struct Span {
     pub start: usize,
     pub len: usize,
@@ -91,7 +93,7 @@ pub struct Span {
 
 // The answer of the companions of read and show: "the refusal, or buffer, place and length"; of a part of the store also the last commit that names the sheet, up to the
 // revision read.
-#[derive(Drop)]
+#[derive(Clone, Copy)]
 pub enum Place {
     Refused(Refusal),
     InStore(Span, u32),

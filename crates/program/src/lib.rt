@@ -1,4 +1,6 @@
 // The program of document 01: a text of commands, run on a fresh store of 32 blocks by seats 1 and 2, and the text of the answers.
+#![tactic(auto)]
+
 ghost use Rattle.std.specs.Prelude.{◌*◌, ◌+◌, ◌/◌, ◌≤◌, [], ◌++◌, ◌∷◌, ◌≡◌, length, take};
 ghost use Rattle.block.specs.Write.{written};
 ghost use Rattle.command.specs.Command.{CallFits, call_in, line_turn, turn as turn_of};

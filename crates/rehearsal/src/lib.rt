@@ -1,5 +1,7 @@
 // The rehearsal of a handover day (W8): four seats ask for the turn, hold it and commit, by the real calls on a store of 121 blocks.
 // A day is defined in specs/Rehearsal.antt, the same with the real calls in specs/RehearsalCalls.antt, and the text in specs/Output.antt.
+#![tactic(auto)]
+
 ghost use Rattle.std.specs.Prelude.{◌+◌, ◌-◌, ◌<◌, ◌≤◌, cond, [], ◌++◌, ◌∷◌, map, ◌≡◌, ltb, length, take};
 ghost use Rattle.std.proofs.Math.Option.{some};
 ghost use Rattle.block.specs.Lists.{All};
@@ -21,14 +23,14 @@ use text::Num;
 use turns::TurnRecord;
 
 // A seat asks at every step that its period divides, and holds the turn for `holding` steps.
-#[derive(Drop)]
+#[derive(Clone, Copy)]
 pub struct Setting {
     pub period: u32,
     pub holding: u32,
 }
 
 // What is counted of a seat: commits, asks, the step of its last ask, and its longest completed wait.
-#[derive(Drop)]
+#[derive(Clone, Copy)]
 pub struct Tally {
     pub commits: u32,
     pub asks: u32,
@@ -37,14 +39,14 @@ pub struct Tally {
 }
 
 // Whether there is a day, and the tallies of seats 1 to 4; where there is none, they are 0.
-#[derive(Drop)]
+#[derive(Clone, Copy)]
 pub struct Outcome {
     pub good: bool,
     pub rows: [Tally; 4],
 }
 
 // The turn record, the step of the grant, and the four seats' tallies.
-#[derive(Drop)]
+#[derive(Clone, Copy)]
 struct Day {
     turn: TurnRecord,
     since: u32,
@@ -552,7 +554,7 @@ fn say_none(out: &mut [u8]) -> usize
 // ---- the line
 
 // The nine numbers, where there are nine.
-#[derive(Drop)]
+#[derive(Clone, Copy)]
 struct Numbers {
     good: bool,
     n: [u32; 9],

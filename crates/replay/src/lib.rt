@@ -1,5 +1,7 @@
 // A list of calls in bytes, run on one store and four working copies side by side: the five buffers are checked once, and then the inner functions run only.
 // What a script and a record of an answer are is in specs/Script.antt and specs/Records.antt.
+#![tactic(auto)]
+
 ghost use Rattle.std.specs.Prelude.{◌<◌, ◌≡◌, length};
 ghost use Rattle.inner.specs.Performs.{told};
 ghost use Rattle.inner.specs.declared.Reply.TheVariants.{At};
@@ -283,7 +285,7 @@ fn run_all(script: &[u8], store: &mut [u8], copies: &mut [u8], answers: &mut [u8
 // ---- the check
 
 // Nothing is wrong, or a refusal.
-#[derive(Drop)]
+#[derive(Clone, Copy)]
 enum Fault {
     Free,
     Is(Refusal),

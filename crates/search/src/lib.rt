@@ -1,4 +1,6 @@
 // Where a sheet of any revision stands in an accepted store, and what a commit did to a sheet. Inner functions: each asks for a store that `store::open` accepts.
+#![tactic(auto)]
+
 ghost use Rattle.std.specs.Prelude.{◌*◌, ◌+◌, ◌<◌, ◌≤◌, ◌≡◌, drop, length};
 ghost use Rattle.model.specs.Blocks.{parse_line, parse_lines};
 ghost use Rattle.model.specs.Calls.{store_side};
@@ -13,7 +15,7 @@ ghost use Rattle.search.specs.Find.{Accepted, Bound, Spanned, back, era_at, foun
 use model::{Action, LogEntry, Source, Span};
 
 // What the last commit that names a sheet says of it: the block that the sheet uses since, 0 for a delete, and the commit's revision. Both are 0 where none names it.
-#[derive(Drop)]
+#[derive(Clone, Copy)]
 pub struct Found {
     pub block: usize,
     pub revision: u32,

@@ -1,7 +1,7 @@
 -- One turn of each loop over the changes of a commit block.
 -- Assumes nothing.
 use Prim.Native.Nat.{◌*◌, ◌+◌, ◌-◌, ◌<◌, ◌≤◌, suc, ℕ}
-use mathlib.Core.Bool.{Bool, ◌&&◌, and_assoc, and_false, false, true}
+use mathlib.Core.Bool.{Bool, ◌&&◌, and_assoc, and-false, false, true}
 use mathlib.Core.List.{List, [], ◌∷◌}
 use mathlib.Core.Logic.{inl, inr}
 use mathlib.Core.Path.{◌∙◌, ◌≡◌, ap, refl, subst, sym}
@@ -39,7 +39,7 @@ mark seen i (l ∷ ls) h =
     elim (eq_or l.sheet i) [
       | inl e ↦
           let m : get_or (set seen i 1) l.sheet 0 ≡ 1 = ap (λ (k : ℕ). get_or (set seen i 1) k 0) e ∙ get_or-set_same seen i 1 0 h in
-          rw (m, eq-eqb l.sheet i e, ne_eqb (suc (named i ls)) 0 (λ z. omega arith)) (sym (and_false (unmarked seen (l ∷ ls))))
+          rw (m, eq-eqb l.sheet i e, ne_eqb (suc (named i ls)) 0 (λ z. omega arith)) (sym (and-false (unmarked seen (l ∷ ls))))
       | inr n ↦
           rw (get_or-set_other seen i l.sheet 1 0 n, named_other i l ls n, mark seen i ls h)
           (sym (and_assoc (eqb (get_or seen l.sheet 0) 0) (unmarked seen ls) (eqb (named i ls) 0)))

@@ -1,7 +1,7 @@
 -- Loops that read every byte and gather the bits that are not as wanted: there are none exactly where each byte is. What is left to read gives the whole.
 -- Assumes nothing.
 use Prim.Native.Nat.{◌+◌, ◌-◌, ◌<◌, ◌≤◌, suc, ℕ}
-use mathlib.Core.Bool.{Bool, ◌&&◌, and_assoc, and_true}
+use mathlib.Core.Bool.{Bool, ◌&&◌, and_assoc, and-true}
 use mathlib.Core.List.{List}
 use mathlib.Core.Path.{◌∙◌, ◌≡◌, ap, sym}
 use native.Mathlib.Numerals.{add-one}
@@ -41,7 +41,7 @@ module _ (l : List ℕ) (v off i to : ℕ) where
   pub are_none : to ≤ i → (eqb off 0 && all_from (λ (k : ℕ). eqb (get_or l k 0) v) i (to - i)) ≡ eqb off 0
   are_none h =
       let e : to - i ≡ 0 = omega arith in
-      ap (λ (n : ℕ). eqb off 0 && all_from (λ (k : ℕ). eqb (get_or l k 0) v) i n) e ∙ and_true (eqb off 0)
+      ap (λ (n : ℕ). eqb off 0 && all_from (λ (k : ℕ). eqb (get_or l k 0) v) i n) e ∙ and-true (eqb off 0)
 
 module _ (a b : List ℕ) (off i : ℕ) where
   pub part_step : i < length a → i < length b
@@ -50,4 +50,4 @@ module _ (a b : List ℕ) (off i : ℕ) where
       gathered off (get_or a i 0) (get_or b i 0) (same (drop (i + 1) a) (drop (i + 1) b)) (same (drop i a) (drop i b)) (same_step a b i h g)
 
   pub part_none : length a ≤ i → length b ≤ i → (eqb off 0 && same (drop i a) (drop i b)) ≡ eqb off 0
-  part_none h g = ap (λ (x : Bool). eqb off 0 && x) (same_none a b i h g) ∙ and_true (eqb off 0)
+  part_none h g = ap (λ (x : Bool). eqb off 0 && x) (same_none a b i h g) ∙ and-true (eqb off 0)

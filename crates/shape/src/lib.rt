@@ -1,5 +1,7 @@
 // One store block of 512 bytes: its shape by its first byte, the counts over the changes of a commit block, the bytes that two blocks hold, and the next row of the
 // table of block numbers. Inner functions: each states what it asks, and its answer by one equation.
+#![tactic(auto)]
+
 ghost use Rattle.std.specs.Prelude.{◌*◌, ◌+◌, ◌-◌, ◌<◌, ◌≤◌, ℕ, ◌≡◌, eqb, drop, get_or, length};
 ghost use Rattle.block.specs.Field.{two_at};
 ghost use Rattle.block.specs.Lists.{all_from, same};

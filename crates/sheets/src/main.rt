@@ -1,4 +1,6 @@
 // Reads standard input to its end, or to one byte more than the program takes, and writes the output of it.
+#![tactic(auto)]
+
 ghost use Rattle.std.specs.Prelude.{◌≡◌, length};
 
 // One byte more than the program takes.

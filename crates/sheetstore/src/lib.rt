@@ -1,5 +1,7 @@
 // The engine for callers in C: every answer as a struct of numbers, which specs/Numbers.antt defines from the answer of the meanings.
 // Each promise is one equation with the call's meaning in crates/model/specs/Calls.antt, of the turn record in crates/turns/specs.
+#![tactic(auto)]
+
 ghost use Rattle.std.specs.Prelude.{◌≡◌};
 ghost use Rattle.model.specs.Calls.{add_call, clear_call, clear_cut_call, commit_call, commit_cut_call, copy_call, create_copy, create_store, delete_call, edit_call, log_call, move_call, panel_place, read_place, release_call, revert_call, show_place, status_call, update_call};
 ghost use Rattle.model.specs.Types.{answer_of, place_of};
@@ -15,7 +17,7 @@ use turns::{Held, TurnRecord};
 
 // A refusal's number, or 0 and the revision, if the call answers one.
 #[repr(C)]
-#[derive(Drop)]
+#[derive(Clone, Copy)]
 pub struct SheetsAnswer {
     pub refusal: u32,
     pub value: u32,
@@ -23,7 +25,7 @@ pub struct SheetsAnswer {
 
 // Of a call that stops after n block writes: a refusal's number, or 0 and 1 if it stopped, or 0, 0 and the revision, if the usual call answers one.
 #[repr(C)]
-#[derive(Drop)]
+#[derive(Clone, Copy)]
 pub struct SheetsCutAnswer {
     pub refusal: u32,
     pub stopped: u32,
@@ -32,7 +34,7 @@ pub struct SheetsCutAnswer {
 
 // A refusal's number, or 0 and a part: of the store (buffer 0) or of the working copy (buffer 1), its first byte and its length; of the store, the last commit that names the sheet.
 #[repr(C)]
-#[derive(Drop)]
+#[derive(Clone, Copy)]
 pub struct SheetsPart {
     pub refusal: u32,
     pub buffer: u32,
@@ -43,7 +45,7 @@ pub struct SheetsPart {
 
 // A refusal's number, or 0 and what status tells: 0 to 8, and the last commit that names the sheet, 0 for none.
 #[repr(C)]
-#[derive(Drop)]
+#[derive(Clone, Copy)]
 pub struct SheetsStanding {
     pub refusal: u32,
     pub status: u32,
@@ -52,7 +54,7 @@ pub struct SheetsStanding {
 
 // A refusal's number, or 0 and what log tells: of a commit its seat, stamp and number of changes; of the sheet the action, 0 for nothing, and the source of a copy.
 #[repr(C)]
-#[derive(Drop)]
+#[derive(Clone, Copy)]
 pub struct SheetsLog {
     pub refusal: u32,
     pub seat: u32,

@@ -1,7 +1,7 @@
 -- The forward pass with a tail, against the base's pass over the blocks before the tail and blank ones after them.
 -- Assumes nothing.
 use Prim.Native.Nat.{◌+◌, ◌≤◌, suc, zero, ℕ}
-use mathlib.Core.Bool.{Bool, ◌&&◌, and_assoc, and_false, false, not, true}
+use mathlib.Core.Bool.{Bool, ◌&&◌, and_assoc, and-false, false, not, true}
 use mathlib.Core.List.{List, [], ◌++◌, ◌∷◌}
 use mathlib.Core.Path.{◌∙◌, ◌≡◌, ap, refl, sym}
 use native.Mathlib.Omega.{arith}
@@ -77,8 +77,8 @@ pass_stem look at k tables z (label ∷ bs) h = go (stem bs)
 pass_stem look at k tables z (blank ∷ bs) h = go (stem bs)
   where
     go : (s : List Block) → false ≡ (ok_from look at k tables (on_stem blank s ++ replicate z blank) && ends tables (on_stem blank s) (blank ∷ bs))
-    go [] = sym (and_false (ok_from look at k tables (blank ∷ replicate z blank)))
-    go (c ∷ cs) = sym (and_false (ok_from look at k tables (blank ∷ c ∷ (cs ++ replicate z blank))))
+    go [] = sym (and-false (ok_from look at k tables (blank ∷ replicate z blank)))
+    go (c ∷ cs) = sym (and-false (ok_from look at k tables (blank ∷ c ∷ (cs ++ replicate z blank))))
 pass_stem look at k tables z (content r b ∷ bs) h = go (stem bs) h (λ g. pass_stem look at (suc k) tables z bs g)
   where
     go : (s : List Block) → 1 ≤ length (on_stem (content r b) s)

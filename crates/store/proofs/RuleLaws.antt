@@ -1,7 +1,7 @@
 -- The rule of one change over numbers is the rule of the layout.
 -- Assumes nothing.
 use Prim.Native.Nat.{◌*◌, ◌+◌, ◌<◌, ◌≤◌, suc, zero, ℕ}
-use mathlib.Core.Bool.{◌&&◌, false, not, or_false, or_true, true}
+use mathlib.Core.Bool.{◌&&◌, false, not, or-false, or-true, true}
 use mathlib.Core.List.{List, [], ◌++◌, ◌∷◌}
 use mathlib.Core.Logic.{inl, inr}
 use mathlib.Core.Path.{◌∙◌, ◌≡◌, ap, refl, subst, sym}
@@ -95,13 +95,13 @@ module _ (look : ℕ → List ℕ) (w : Spot) (c : Change) where
         unfolding copy_rule
         copy_shared q =
             rw (eq-eqb c.old 0 e, le-leb 1 c.revision some, lt-ltb c.revision (w.last + 1) past_lt, ne_eqb used 0 there, eq-eqb c.block used q)
-            (or_true (own_of w.at w.k c.block && not (same (look c.block) (look used))))
+            (or-true (own_of w.at w.k c.block && not (same (look c.block) (look used))))
 
         pub copy-own : (c.block ≡ used → ⊥) → copy_rule look w c used ≡ (own_of w.at w.k c.block && not (same (look c.block) (look used)))
         unfolding copy_rule
         copy-own q =
             rw (eq-eqb c.old 0 e, le-leb 1 c.revision some, lt-ltb c.revision (w.last + 1) past_lt, ne_eqb used 0 there, ne_eqb c.block used q)
-            (or_false (own_of w.at w.k c.block && not (same (look c.block) (look used))))
+            (or-false (own_of w.at w.k c.block && not (same (look c.block) (look used))))
 
 -- the source's block, read off the flat table
 pub from_row : (look : ℕ → List ℕ) (w : Spot) (c : Change) (tab : List ℕ) → c.revision ≤ w.last → c.source < 32

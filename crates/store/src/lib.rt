@@ -1,6 +1,8 @@
 // Whether a store's bytes are the layout of a history, with or without a tail: refusals 1 to 3, or the last revision and the used blocks. Nothing is written. The zero
 // blocks are passed over from the end; then one pass over the checks, one over the shapes and one forward over the commits and marks, with a table of 32 block numbers
 // for each revision, so that a copy's source is one read; and last the test of all marks together.
+#![tactic(auto)]
+
 ghost use Rattle.std.specs.Prelude.{◌*◌, ◌+◌, ◌≤◌, ◌<◌, [], ◌≡◌, drop, get_or, length};
 ghost use Rattle.block.specs.Field.{two_at};
 ghost use Rattle.block.specs.Lists.{all, same};
@@ -20,20 +22,20 @@ ghost use Rattle.store.specs.declared.Opened.TheVariants.{Open};
 use model::Refusal;
 
 // The last revision, and U, the used blocks.
-#[derive(Drop)]
+#[derive(Clone, Copy)]
 pub struct Header {
     pub last: usize,
     pub used: usize,
 }
 
-#[derive(Drop)]
+#[derive(Clone, Copy)]
 pub enum Opened {
     Refused(Refusal),
     Open(Header),
 }
 
 // What the forward pass answers, and whether it met a mark.
-#[derive(Drop)]
+#[derive(Clone, Copy)]
 pub enum Passed {
     Refused(Refusal),
     Plain(Header),
@@ -41,7 +43,7 @@ pub enum Passed {
 }
 
 // Where the forward pass stands, over n blocks: the last revision so far, and the next commit's k content blocks from block `at` on.
-#[derive(Drop)]
+#[derive(Clone, Copy)]
 pub struct Spot {
     pub n: usize,
     pub last: usize,
@@ -50,7 +52,7 @@ pub struct Spot {
 }
 
 // A change of a commit block, and `old`, the block that its sheet uses before.
-#[derive(Drop)]
+#[derive(Clone, Copy)]
 pub struct Change {
     pub action: u8,
     pub old: usize,

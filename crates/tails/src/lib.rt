@@ -1,4 +1,6 @@
 // The tail of an accepted store: whether there is one, how many blocks it has, and its clearing. Inner functions: each asks for a store that `store::open` accepts, and for U.
+#![tactic(auto)]
+
 ghost use Rattle.std.specs.Prelude.{◌+◌, ◌-◌, ◌*◌, ◌≤◌, not, ◌≡◌, eqb, leb, length};
 ghost use Rattle.model.specs.Store.{blank_from, tail_of};
 ghost use Rattle.tails.specs.Taken.{Clearable, Taken};

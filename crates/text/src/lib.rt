@@ -1,18 +1,20 @@
 // Text in and out: spans, decimal numbers, HEX. What does not fit a buffer is not written.
+#![tactic(auto)]
+
 ghost use Rattle.std.specs.Prelude.{◌*◌, ◌+◌, ◌/◌, ◌<◌, ◌≤◌, true, ◌≡◌, length};
 ghost use Rattle.block.specs.Lists.{all};
 ghost use Rattle.block.specs.Write.{written};
 ghost use Rattle.text.specs.Text.{HexFits, are_pairs, bytes_or, decimal_of, digit_of, glyph_of, hex_of, hex_pairs, hex_text, hexed, is_dash, is_digit, number_of, numbered, pairs_of, span_of, value_of};
 
 // A number, if a word is one.
-#[derive(Drop)]
+#[derive(Clone, Copy)]
 pub enum Num {
     Is(u32),
     NotNum,
 }
 
 // How many bytes a word of HEX stands for, if it is one.
-#[derive(Drop)]
+#[derive(Clone, Copy)]
 pub enum Hex {
     Bytes(usize),
     NotHex,

@@ -1,5 +1,7 @@
 // The turn record (W7): four seats take turns to commit. Every call takes the record by value and answers the record it leaves.
 // Each promise is one equation with the call's meaning, `turn_call`, in specs/Turns.antt.
+#![tactic(auto)]
+
 ghost use Rattle.std.specs.Prelude.{◌||◌, not, true, ◌≡◌};
 ghost use Rattle.model.specs.Codec.{pad_to};
 ghost use Rattle.turns.specs.Turned.{held_of, turned, turned_of};
@@ -7,7 +9,7 @@ ghost use Rattle.turns.specs.Turns.{Ask, Give, TakeBack, asked, held_by, in_form
 
 // The holder, then those waiting, longest first; 0 where none.
 #[repr(C)]
-#[derive(Drop)]
+#[derive(Clone, Copy)]
 pub struct TurnRecord {
     pub holder: u32,
     pub first: u32,
@@ -17,7 +19,7 @@ pub struct TurnRecord {
 
 // A refusal's number, or 0 and the holder, 0 for none.
 #[repr(C)]
-#[derive(Drop)]
+#[derive(Clone, Copy)]
 pub struct Held {
     pub refusal: u32,
     pub holder: u32,
@@ -25,7 +27,7 @@ pub struct Held {
 
 // The record that a call leaves, and its answer.
 #[repr(C)]
-#[derive(Drop)]
+#[derive(Clone, Copy)]
 pub struct Turned {
     pub turn: TurnRecord,
     pub answer: Held,

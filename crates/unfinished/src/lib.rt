@@ -1,1 +1,3 @@
 // Computed cases only: see proofs/.
+#![tactic(auto)]
+

@@ -1,4 +1,6 @@
 // Update and revert on an accepted store and a working copy that fits it. The chosen entries are visited by trailing zeros.
+#![tactic(auto)]
+
 ghost use Rattle.std.specs.Prelude.{◌<◌, ◌≤◌, ◌≡◌, set};
 ghost use Rattle.entries.specs.View.{Fitting, entry_in};
 ghost use Rattle.model.specs.Blocks.{bytes_at};

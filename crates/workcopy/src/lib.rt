@@ -1,4 +1,6 @@
 // The working copy: 33 blocks of 512 bytes, the seat's and one for each of 32 sheets. Its acceptance, its entries in and out, and create.
+#![tactic(auto)]
+
 ghost use Rattle.std.specs.Prelude.{◌+◌, ◌<◌, ◌≡◌, drop, get_or, length, set};
 ghost use Rattle.std.proofs.Math.Seq.{paste};
 ghost use Rattle.block.specs.Buffer.{block_at};
@@ -14,7 +16,7 @@ ghost use Rattle.workcopy.specs.Shape.{fields_ok, ok_block, shaped_block};
 use model::{Answer, Entry, Refusal, Source, State};
 
 // What acceptance finds: the refusal, or the copy's seat.
-#[derive(Drop)]
+#[derive(Clone, Copy)]
 pub enum Acceptance {
     Refused(Refusal),
     Seat(u32),

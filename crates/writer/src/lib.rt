@@ -1,4 +1,6 @@
 // The writing of a commit and of a release: one function for each block that is written, and the order in which those of a commit are.
+#![tactic(auto)]
+
 ghost use Rattle.std.specs.Prelude.{◌*◌, ◌+◌, ◌<◌, ◌≤◌, ◌≡◌, length, take};
 ghost use Rattle.block.specs.Write.{written};
 ghost use Rattle.model.specs.Blocks.{commit, content, fields_of, lines_of, mark};
@@ -7,7 +9,7 @@ ghost use Rattle.model.specs.Log.{released};
 ghost use Rattle.writer.specs.Blocks.{PutSome, Sourced, Tells, Writable, Wrote, commit_blocks, contents_by, head_of, line_bytes, lines_from, sheet_in, size_in};
 
 // A change as a commit block has it.
-#[derive(Drop)]
+#[derive(Clone, Copy)]
 pub struct Line {
     pub sheet: u8,
     pub action: u8,
@@ -153,7 +155,7 @@ fn put_entry<'a>(store: &mut [u8], block: usize, revision: usize, copy: &'a [u8]
 }
 
 // Where a writing stood when it stopped: the next block, and how many block writes were left to it.
-#[derive(Drop)]
+#[derive(Clone, Copy)]
 struct Cut {
     next: usize,
     left: usize,

@@ -6,14 +6,14 @@ use lib.ListN.{get_or-eq_default}
 use Rattle.block.proofs.byte.Statement.{statement}
 use Rattle.block.proofs.byte.Tie as tie
 
-shared-slice-read-result : tie.Need-shared-slice-read-result
+shared-slice-read-result : tie.Need-bounds-s-k
 shared-slice-read-result c = search rules
 
-returns : tie.Need-returns
+returns : tie.Need-returns-then-k-s
 returns c = search rules
 
-returns-2 : tie.Need-returns-2
-returns-2 c = sym (get_or-eq_default c.before.args.s.now 0 c.if1.false)
+returns-2 : tie.Need-returns-else-k-s
+returns-2 c = sym (get_or-eq_default c.before.args.s.now 0 c.if-k-s.false)
 
-pub byte-spec : {M : Type 1} → statement M
-byte-spec = tie.close (tie.spec shared-slice-read-result returns returns-2)
+pub byte_spec : {M : Type 1} → statement M
+byte_spec = tie.close (tie.spec shared-slice-read-result returns returns-2)

@@ -6,71 +6,71 @@ use Rattle.block.proofs.Fields.{four_is, four_past}
 use Rattle.block.proofs.get32.Statement.{statement}
 use Rattle.block.proofs.get32.Tie as tie
 
-shared-slice-read-wide32 : tie.Need-shared-slice-read-wide32
+shared-slice-read-wide32 : tie.Need-bounds-s-k
 shared-slice-read-wide32 c = search rules
 
 wide32-requires : tie.Need-wide32-requires
 wide32-requires c κs = search rules
 
-add-byte : tie.Need-overflow-add-byte
+add-byte : tie.Need-overflow_add-k
 add-byte c = search rules
 
 byte-requires : tie.Need-byte-requires
 byte-requires c κs = search rules
 
-wide32-requires-2 : tie.Need-wide32-requires-2
+wide32-requires-2 : tie.Need-wide32-requires-then-k-s
 wide32-requires-2 c κs = search rules
 
-add-byte-2 : tie.Need-overflow-add-byte-2
+add-byte-2 : tie.Need-overflow_add-k-then-k-s
 add-byte-2 c = search rules
 
-byte-requires-2 : tie.Need-byte-requires-2
+byte-requires-2 : tie.Need-byte-requires-then-k-s
 byte-requires-2 c κs = search rules
 
-wide32-requires-3 : tie.Need-wide32-requires-3
+wide32-requires-3 : tie.Need-wide32-requires-then-k-s-2
 wide32-requires-3 c κs = search rules
 
-add-byte-3 : tie.Need-overflow-add-byte-3
+add-byte-3 : tie.Need-overflow_add-k-then-k-s-2
 add-byte-3 c = search rules
 
-byte-requires-3 : tie.Need-byte-requires-3
+byte-requires-3 : tie.Need-byte-requires-then-k-s-2
 byte-requires-3 c κs = search rules
 
-wide32-requires-4 : tie.Need-wide32-requires-4
+wide32-requires-4 : tie.Need-wide32-requires-then-k-s-3
 wide32-requires-4 c κs = search rules
 
-mul-result : tie.Need-overflow-mul-result
+mul-result : tie.Need-overflow_mul-result
 mul-result c = search rules
 
-add-result : tie.Need-overflow-add-result
+add-result : tie.Need-overflow_add-result
 add-result c = search rules
 
-mul-result-2 : tie.Need-overflow-mul-result-2
+mul-result-2 : tie.Need-overflow_mul-result-then-k-s
 mul-result-2 c = search rules
 
-add-result-2 : tie.Need-overflow-add-result-2
+add-result-2 : tie.Need-overflow_add-result-then-k-s
 add-result-2 c = search rules
 
-mul-result-3 : tie.Need-overflow-mul-result-3
+mul-result-3 : tie.Need-overflow_mul-result-then-k-s-2
 mul-result-3 c = search rules
 
-add-result-3 : tie.Need-overflow-add-result-3
+add-result-3 : tie.Need-overflow_add-result-then-k-s-2
 add-result-3 c = search rules
 
-returns : tie.Need-returns
+returns : tie.Need-returns-then-k-s
 returns c =
     let g = c.before.before.before.before.before.before.before.before.before.before.args in
     four_is g.s.now g.k
     c.before.before.before.before.before.before.wide32.ensures.0
-    (c.before.before.before.before.wide322.ensures.0 ∙ c.before.before.before.before.before.byte.ensures)
-    (c.before.before.wide323.ensures.0 ∙ c.before.before.before.byte2.ensures)
-    (c.wide324.ensures.0 ∙ c.before.byte3.ensures)
+    (c.before.before.before.before.wide32-then-k-s.ensures.0 ∙ c.before.before.before.before.before.byte.ensures)
+    (c.before.before.wide32-then-k-s-2.ensures.0 ∙ c.before.before.before.byte-then-k-s.ensures)
+    (c.wide32-then-k-s-3.ensures.0 ∙ c.before.byte-then-k-s-2.ensures)
 
-returns-2 : tie.Need-returns-2
-returns-2 c = four_past c.before.before.args.s.now c.before.before.args.k c.if1.false
+returns-2 : tie.Need-returns-else-k-s
+returns-2 c = four_past c.before.before.args.s.now c.before.before.args.k c.if-k-s.false
 
-pub get32-spec : {M : Type 1} → statement M
-get32-spec =
+pub get32_spec : {M : Type 1} → statement M
+get32_spec =
     tie.close
     (tie.spec
     shared-slice-read-wide32

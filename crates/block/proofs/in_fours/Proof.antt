@@ -14,67 +14,67 @@ use Rattle.block.proofs.Fours.{taken-four, Pair, pair_grows, fours-turn}
 use Rattle.block.proofs.in_fours.Statement.{statement}
 use Rattle.block.proofs.in_fours.Tie as tie
 
-abbrev invariant-loop : tie.invariant-loop
+abbrev invariant-loop : tie.invariant-loop-i
 invariant-loop s n end even₀ odd₀ w₀ left₀ i₀ even odd w left i =
     ((end ≡ 4 * n) × (4 * left + i ≡ end))
     × (Pair even i × Pair odd i)
     × (4 * w ≤ 128520 * i)
     × (fours (even % 65_536) (odd % 65_536) (even / 65_536) (odd / 65_536) w left (drop i (take 508 s)) ≡ fours 0 0 0 0 0 n (take 508 s))
 
-abbrev decreases-loop : tie.decreases-loop
+abbrev decreases-loop : tie.decreases-loop-i
 decreases-loop s n end even₀ odd₀ w₀ left₀ i₀ even odd w left i = end - i
 
-loop-holds : tie.Need-loop-init invariant-loop decreases-loop
+loop-holds : tie.Need-loop-i-init invariant-loop decreases-loop
 loop-holds c = ((refl, omega arith), ((omega arith, omega arith), (omega arith, omega arith)), omega arith, refl)
 
 -- what a step does to the two pairs of sums and to w
-module _ (c : tie.After-read-four invariant-loop decreases-loop) where
+module _ (c : tie.After-read_four-x invariant-loop decreases-loop) where
   abbrev i : ℕ
-  i = c.before.before.loop.i
+  i = c.before.before.loop-i.i
 
   abbrev s : List ℕ
   s = c.before.before.before.before.args.s.now
 
   abbrev even : ℕ
-  even = c.before.before.loop.even
+  even = c.before.before.loop-i.even
 
   abbrev odd : ℕ
-  odd = c.before.before.loop.odd
+  odd = c.before.before.loop-i.odd
 
   small : (k : ℕ) → get_or s k 0 < 256
-  small k = omega (arith, c.before.before.before.shared-slice-known.given k)
+  small k = omega (arith, c.before.before.before.shared_slice_known-1.given k)
 
   inside : i ≤ 504
   inside = omega arith
 
-  evens : (even + c.read-four.result.even < 4_294_967_296) × Pair (even + c.read-four.result.even) (i + 4)
+  evens : (even + c.read_four-x.result.even < 4_294_967_296) × Pair (even + c.read_four-x.result.even) (i + 4)
   evens =
-      pair_grows even c.read-four.result.even (get_or s i 0) (get_or s (i + 2) 0) i c.read-four.ensures.0 (small i) (small (i + 2)) inside c.before.before.loop.invariant.1.0
+      pair_grows even c.read_four-x.result.even (get_or s i 0) (get_or s (i + 2) 0) i c.read_four-x.ensures.0 (small i) (small (i + 2)) inside c.before.before.loop-i.invariant.1.0
 
-  odds : (odd + c.read-four.result.odd < 4_294_967_296) × Pair (odd + c.read-four.result.odd) (i + 4)
+  odds : (odd + c.read_four-x.result.odd < 4_294_967_296) × Pair (odd + c.read_four-x.result.odd) (i + 4)
   odds =
-      pair_grows odd c.read-four.result.odd (get_or s (i + 1) 0) (get_or s (i + 3) 0) i c.read-four.ensures.1 (small (i + 1)) (small (i + 3)) inside c.before.before.loop.invariant.1.1
+      pair_grows odd c.read_four-x.result.odd (get_or s (i + 1) 0) (get_or s (i + 3) 0) i c.read_four-x.ensures.1 (small (i + 1)) (small (i + 3)) inside c.before.before.loop-i.invariant.1.1
 
-  counted : (c.before.before.loop.left - 1) * c.read-four.result.all ≤ 128520
-  counted = mul-le-mul {n₂ = 126} {m₂ = 1020} (omega arith) c.read-four.ensures.3
+  counted : (c.before.before.loop-i.left - 1) * c.read_four-x.result.all ≤ 128520
+  counted = mul-le-mul {n₂ = 126} {m₂ = 1020} (omega arith) c.read_four-x.ensures.3
 
-add-even : tie.Need-overflow-add-even invariant-loop decreases-loop
+add-even : tie.Need-overflow_add-even invariant-loop decreases-loop
 add-even c = record { fits = (evens c.before).0 }
 
-add-odd : tie.Need-overflow-add-odd invariant-loop decreases-loop
+add-odd : tie.Need-overflow_add-odd invariant-loop decreases-loop
 add-odd c = record { fits = (odds c.before.before).0 }
 
-mul-w : tie.Need-overflow-mul-w invariant-loop decreases-loop
+mul-w : tie.Need-overflow_mul-w invariant-loop decreases-loop
 mul-w c = omega (arith, counted c.before.before.before)
 
-add-w : tie.Need-overflow-add-w invariant-loop decreases-loop
+add-w : tie.Need-overflow_add-w invariant-loop decreases-loop
 add-w c = omega (arith, counted c.before.before.before)
 
-loop-again : tie.Need-loop-preserved invariant-loop decreases-loop
+loop-again : tie.Need-loop-i-preserved invariant-loop decreases-loop
 loop-again c =
     let a = c.before.before.before in
-    let t = a.before.before.loop in
-    let r = a.read-four in
+    let t = a.before.before.loop-i in
+    let r = a.read_four-x in
     let e = taken-four 508 (s a) t.i (omega arith) in
     let at : (k : ℕ) → k < 508 → get_or (take 508 (s a)) k 0 < 256 = λ k h. subst (λ (x : ℕ). x < 256) (sym (get_or-take 508 (s a) k 0 h)) (small a k) in (
       (t.invariant.0.0, omega arith),
@@ -87,12 +87,12 @@ loop-again c =
 
 returns : tie.Need-returns invariant-loop decreases-loop
 returns c =
-    let t = c.before.loop in
+    let t = c.before.loop-i in
     let none : t.left ≡ 0 = omega arith in
     (sym t.invariant.3 ∙ rw none, omega arith, omega arith)
 
-pub in-fours-spec : {M : Type 1} → statement M
-in-fours-spec =
+pub in_fours_spec : {M : Type 1} → statement M
+in_fours_spec =
     tie.close
     (tie.spec
     invariant-loop

@@ -12,33 +12,33 @@ use Rattle.block.proofs.Turns.{zero-step, zero-done}
 use Rattle.block.proofs.is_zero.Statement.{statement}
 use Rattle.block.proofs.is_zero.Tie as tie
 
-abbrev invariant-loop : tie.invariant-loop
+abbrev invariant-loop : tie.invariant-loop-i
 invariant-loop s any₀ i₀ any i = (i ≤ length s) × ((eqb any 0 && is_zero (drop i s)) ≡ is_zero s)
 
-abbrev decreases-loop : tie.decreases-loop
+abbrev decreases-loop : tie.decreases-loop-i
 decreases-loop s any₀ i₀ any i = length s - i
 
-loop-holds : tie.Need-loop-init invariant-loop decreases-loop
+loop-holds : tie.Need-loop-i-init invariant-loop decreases-loop
 loop-holds c = (omega arith, refl)
 
-shared-slice-read-any : tie.Need-shared-slice-read-any invariant-loop decreases-loop
+shared-slice-read-any : tie.Need-bounds-s-i invariant-loop decreases-loop
 shared-slice-read-any c = search rules
 
-add-i : tie.Need-overflow-add-i invariant-loop decreases-loop
+add-i : tie.Need-overflow_add-i invariant-loop decreases-loop
 add-i c = search rules
 
-loop-less : tie.Need-loop-smaller invariant-loop decreases-loop
+loop-less : tie.Need-loop-i-smaller invariant-loop decreases-loop
 loop-less c = search rules
 
-loop-again : tie.Need-loop-preserved invariant-loop decreases-loop
+loop-again : tie.Need-loop-i-preserved invariant-loop decreases-loop
 loop-again c =
     let l = c.before.before in
-    (omega arith, zero-step l.before.args.s.now l.loop.i l.loop.any c.before.loop-test.true ∙ l.loop.invariant.1)
+    (omega arith, zero-step l.before.args.s.now l.loop-i.i l.loop-i.any c.before.loop-i-test.true ∙ l.loop-i.invariant.1)
 
 returns : tie.Need-returns invariant-loop decreases-loop
 returns c =
     let l = c.before in
-    sym (zero-done l.before.args.s.now l.loop.i l.loop.any c.loop-test.false) ∙ l.loop.invariant.1
+    sym (zero-done l.before.args.s.now l.loop-i.i l.loop-i.any c.loop-i-test.false) ∙ l.loop-i.invariant.1
 
-pub is-zero-spec : {M : Type 1} → statement M
-is-zero-spec = tie.close (tie.spec invariant-loop decreases-loop loop-holds shared-slice-read-any add-i loop-less loop-again returns)
+pub is_zero_spec : {M : Type 1} → statement M
+is_zero_spec = tie.close (tie.spec invariant-loop decreases-loop loop-holds shared-slice-read-any add-i loop-less loop-again returns)

@@ -6,17 +6,17 @@ use lib.Seq.{set_out}
 use Rattle.block.proofs.put.Statement.{statement}
 use Rattle.block.proofs.put.Tie as tie
 
-slice-write-s : tie.Need-slice-write-s
+slice-write-s : tie.Need-bounds-s-k
 slice-write-s c = search rules
 
-same_length : tie.Need-same-length
+same_length : tie.Need-shape_of-s
 same_length c = search rules
 
-returns : tie.Need-returns
+returns : tie.Need-returns-then-k-s
 returns c = search rules
 
-returns-2 : tie.Need-returns-2
-returns-2 c = sym (set_out _ _ _ c.if1.false)
+returns-2 : tie.Need-returns-else-k-s
+returns-2 c = sym (set_out _ _ _ c.if-k-s.false)
 
 pub put_spec : {M : Type 1} → statement M
 put_spec = tie.close (tie.spec slice-write-s same_length returns returns-2)

@@ -11,41 +11,41 @@ use Rattle.block.proofs.Writing.{write_step, write_done, write_all}
 use Rattle.block.proofs.put_bytes.Statement.{statement}
 use Rattle.block.proofs.put_bytes.Tie as tie
 
-abbrev invariant-loop : tie.invariant-loop
+abbrev invariant-loop : tie.invariant-loop-i
 invariant-loop s₀ at b n i₀ s i =
     (n ≡ min (length b) (length s₀ - at)) × (i ≤ n) × (length s ≡ length s₀) × (written (at + i) (drop i b) s ≡ written at b s₀)
 
-abbrev decreases-loop : tie.decreases-loop
+abbrev decreases-loop : tie.decreases-loop-i
 decreases-loop s₀ at b n i₀ s i = n - i
 
-sub-n : tie.Need-overflow-sub-n invariant-loop decreases-loop
+sub-n : tie.Need-overflow_sub-n invariant-loop decreases-loop
 sub-n c = search rules
 
-loop-holds : tie.Need-loop-init invariant-loop decreases-loop
+loop-holds : tie.Need-loop-i-init invariant-loop decreases-loop
 loop-holds c =
     let a = c.before.before.args in
-    let e : c.before.if1.n ≡ length a.s.now - a.at = ⊎_elim (λ h. omega arith) (λ h. omega arith) c.before.if1.branch in
-    let f : c.if2.n ≡ min (length a.b.now) (length a.s.now - a.at) = ⊎_elim (λ h. omega arith) (λ h. omega arith) c.if2.branch in
+    let e : c.before.if-at-s.n ≡ length a.s.now - a.at = ⊎_elim (λ h. omega arith) (λ h. omega arith) c.before.if-at-s.branch-raw in
+    let f : c.if-b-n.n ≡ min (length a.b.now) (length a.s.now - a.at) = ⊎_elim (λ h. omega arith) (λ h. omega arith) c.if-b-n.branch-raw in
     (f, omega arith, refl, write_all a.at a.b.now a.s.now)
 
-shared-slice-read-s : tie.Need-shared-slice-read-s invariant-loop decreases-loop
+shared-slice-read-s : tie.Need-bounds-b-i invariant-loop decreases-loop
 shared-slice-read-s c = search rules
 
-add-s : tie.Need-overflow-add-s invariant-loop decreases-loop
+add-s : tie.Need-overflow_add-s invariant-loop decreases-loop
 add-s c = search rules
 
-slice-write-s : tie.Need-slice-write-s invariant-loop decreases-loop
+slice-write-s : tie.Need-bounds-s-at invariant-loop decreases-loop
 slice-write-s c = search rules
 
-add-i : tie.Need-overflow-add-i invariant-loop decreases-loop
+add-i : tie.Need-overflow_add-i invariant-loop decreases-loop
 add-i c = search rules
 
-loop-less : tie.Need-loop-smaller invariant-loop decreases-loop
+loop-less : tie.Need-loop-i-smaller invariant-loop decreases-loop
 loop-less c = search rules
 
-loop-again : tie.Need-loop-preserved invariant-loop decreases-loop
+loop-again : tie.Need-loop-i-preserved invariant-loop decreases-loop
 loop-again c =
-    let l = c.before.before.loop in
+    let l = c.before.before.loop-i in
     let a = c.before.before.before.before.before.args in (
       l.invariant.0,
       omega arith,
@@ -53,17 +53,17 @@ loop-again c =
       write_step a.at l.i a.b.now l.s (omega arith) ∙ l.invariant.3,
     )
 
-same_length : tie.Need-same-length invariant-loop decreases-loop
+same_length : tie.Need-shape_of-s invariant-loop decreases-loop
 same_length c = search rules
 
 returns : tie.Need-returns invariant-loop decreases-loop
 returns c =
-    let l = c.before.loop in
+    let l = c.before.loop-i in
     let a = c.before.before.before.before.args in
     sym (write_done a.at l.i a.b.now l.s (omega arith)) ∙ l.invariant.3
 
-pub put-bytes-spec : {M : Type 1} → statement M
-put-bytes-spec =
+pub put_bytes_spec : {M : Type 1} → statement M
+put_bytes_spec =
     tie.close
     (tie.spec
     invariant-loop

@@ -15,12 +15,12 @@ returns : tie.Need-returns
 returns c =
     let s = c.before.before.args.s.now in
     let k = c.before.before.args.k in
-    let small : (j : ℕ) → get_or s j 0 < 256 = λ j. omega (arith, c.before.shared-slice-known.given j) in
-    word_adds c.word.result (get_or s k 0) (get_or s (k + 1) 0) (get_or s (k + 2) 0) (get_or s (k + 3) 0) (c.word.ensures ∙ sym (four_is s k refl refl refl refl))
+    let small : (j : ℕ) → get_or s j 0 < 256 = λ j. omega (arith, c.before.shared_slice_known-1.given j) in
+    word_adds c.word-x.result (get_or s k 0) (get_or s (k + 1) 0) (get_or s (k + 2) 0) (get_or s (k + 3) 0) (c.word-x.ensures ∙ sym (four_is s k refl refl refl refl))
     (small k) (small (k + 1)) (small (k + 2)) (small (k + 3))
 
-pub read-four-spec : {M : Type 1} → statement M
-read-four-spec =
+pub read_four_spec : {M : Type 1} → statement M
+read_four_spec =
     tie.close
     (tie.spec
     (λ c κs. search rules)

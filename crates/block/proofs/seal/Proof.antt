@@ -9,38 +9,38 @@ use Rattle.block.proofs.Sealing.{seal_by, seal_not}
 use Rattle.block.proofs.seal.Statement.{statement}
 use Rattle.block.proofs.seal.Tie as tie
 
-below : (c : tie.After-sums-of) → (c.sums-of.result.a < 65_521) × (c.sums-of.result.b < 65_521)
-below c = rw c.sums-of.ensures at (sums-small 0 0 (take 508 c.before.before.before.before.args.s.now) (omega arith) (omega arith))
+below : (c : tie.After-sums_of-t) → (c.sums_of-t.result.a < 65_521) × (c.sums_of-t.result.b < 65_521)
+below c = rw c.sums_of-t.ensures at (sums-small 0 0 (take 508 c.before.before.before.args.s.now) (omega arith) (omega arith))
 
-returns : tie.Need-returns
-returns c = seal_not c.before.before.args.s.now c.if1.true
+returns : tie.Need-returns-then-s-ne512
+returns c = seal_not c.before.before.args.s.now c.if-s-ne512.true
 
-sums-of-requires : tie.Need-sums-of-requires
+sums-of-requires : tie.Need-sums_of-t-requires
 sums-of-requires c κs = search rules
 
-cast-put16 : tie.Need-overflow-cast-put16
+cast-put16 : tie.Need-overflow_cast-t
 cast-put16 c = omega (arith, below c.before.before)
 
 put16-requires : tie.Need-put16-requires
 put16-requires c κs = search rules
 
-cast-put16-2 : tie.Need-overflow-cast-put16-2
+cast-put16-2 : tie.Need-overflow_cast-t-2
 cast-put16-2 c = omega (arith, below c.before.before.before.before.before.before.before)
 
 put16-requires-2 : tie.Need-put16-requires-2
 put16-requires-2 c κs = search rules
 
-same_length : tie.Need-same-length
+same_length : tie.Need-shape_of-s
 same_length c = search rules
 
-returns-2 : tie.Need-returns-2
+returns-2 : tie.Need-returns
 returns-2 c =
     let t = c.before.before.before.before.before.before.before.before.before.before in
-    seal_by t.before.before.before.before.args.s.now t.sums-of.result.a t.sums-of.result.b t.before.before.if1.false t.sums-of.ensures
-    c.before.before.before.before.before.before.before.put16.ensures c.before.before.put162.ensures
+    seal_by t.before.before.before.args.s.now t.sums_of-t.result.a t.sums_of-t.result.b t.before.if-s-ne512.false t.sums_of-t.ensures
+    c.before.before.before.before.before.before.before.put16.ensures c.before.before.put16-2.ensures
 
-pub seal-spec : {M : Type 1} → statement M
-seal-spec =
+pub seal_spec : {M : Type 1} → statement M
+seal_spec =
     tie.close
     (tie.spec
     returns

@@ -7,39 +7,39 @@ use Rattle.block.proofs.Parts.{seal_at-not, seal_at_by}
 use Rattle.block.proofs.seal_at.Statement.{statement}
 use Rattle.block.proofs.seal_at.Tie as tie
 
-returns : tie.Need-returns
+returns : tie.Need-returns-then-s-j
 returns c =
     let g = c.before.before.args in
-    seal_at-not g.s.now g.j c.if1.true
+    seal_at-not g.s.now g.j c.if-s-j.true
 
-mul_at : tie.Need-overflow-mul-at
+mul_at : tie.Need-overflow_mul-at
 mul_at c = search rules
 
-add-end : tie.Need-overflow-add-end
+add-end : tie.Need-overflow_add-end
 add-end c = search rules
 
-sub-seal : tie.Need-overflow-sub-seal
+sub-seal : tie.Need-slice_bounds-seal-count
 sub-seal c = search rules
 
-part-seal-start : tie.Need-slice-bounds-seal-start
+part-seal-start : tie.Need-slice_bounds-seal-start
 part-seal-start c = search rules
 
-part-seal-end : tie.Need-slice-bounds-seal-end
+part-seal-end : tie.Need-slice_bounds-seal-end
 part-seal-end c = search rules
 
 seal-requires : tie.Need-seal-requires
 seal-requires c κs = search rules
 
-same_length : tie.Need-same-length
+same_length : tie.Need-shape_of-s
 same_length c = search rules
 
-returns-2 : tie.Need-returns-2
+returns-2 : tie.Need-returns
 returns-2 c =
     let g = c.before.before.before.before.before.before.args in
-    seal_at_by g.s.now g.j (512 * g.j + 512 - 512 * g.j) (omega arith) c.before.before.before.before.if1.false c.before.before.seal.ensures
+    seal_at_by g.s.now g.j (512 * g.j + 512 - 512 * g.j) (omega arith) c.before.before.before.before.if-s-j.false c.before.before.seal.ensures
 
-pub seal-at-spec : {M : Type 1} → statement M
-seal-at-spec =
+pub seal_at_spec : {M : Type 1} → statement M
+seal_at_spec =
     tie.close
     (tie.spec
     returns

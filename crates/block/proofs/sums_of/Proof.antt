@@ -15,26 +15,26 @@ use Rattle.block.proofs.Fours.{fours-sums}
 use Rattle.block.proofs.sums_of.Statement.{statement}
 use Rattle.block.proofs.sums_of.Tie as tie
 
-abbrev invariant-loop : tie.invariant-loop
+abbrev invariant-loop : tie.invariant-loop-i
 invariant-loop s end n a₀ b₀ i₀ a b i =
     (end ≡ min 508 (length s)) × (i ≤ end) × (a ≤ 255 * i) × (b ≤ 130560 * i) × (sums (a % 65_521) (b % 65_521) (drop i (take 508 s)) ≡ sums 0 0 (take 508 s))
 
-abbrev decreases-loop : tie.decreases-loop
+abbrev decreases-loop : tie.decreases-loop-i
 decreases-loop s end n a₀ b₀ i₀ a b i = end - i
 
-end_is : (c : tie.After-row-known invariant-loop decreases-loop) → c.before.if1.end ≡ min 508 (length c.before.before.before.args.s.now)
-end_is c = ⊎_elim (λ h. omega arith) (λ h. omega arith) c.before.if1.branch
+end_is : (c : tie.After-row_known-1 invariant-loop decreases-loop) → c.before.if-end-gt508.end ≡ min 508 (length c.before.before.before.args.s.now)
+end_is c = ⊎_elim (λ h. omega arith) (λ h. omega arith) c.before.if-end-gt508.branch-raw
 
-in-fours-requires : tie.Need-in-fours-requires invariant-loop decreases-loop
+in-fours-requires : tie.Need-in_fours-t-requires invariant-loop decreases-loop
 in-fours-requires c κs = (omega (arith, end_is c), omega (arith, end_is c))
 
-loop-holds : tie.Need-loop-init invariant-loop decreases-loop
+loop-holds : tie.Need-loop-i-init invariant-loop decreases-loop
 loop-holds c =
     let r = c.before in
     let s = r.before.before.before.args.s.now in
-    let n = r.before.if1.end / 4 in
+    let n = r.before.if-end-gt508.end / 4 in
     let e = end_is r in
-    let f : fours 0 0 0 0 0 n (take 508 s) ≡ (c.in-fours.result.a, c.in-fours.result.b) = c.in-fours.ensures.0 in (
+    let f : fours 0 0 0 0 0 n (take 508 s) ≡ (c.in_fours-t.result.a, c.in_fours-t.result.b) = c.in_fours-t.ensures.0 in (
       e,
       omega arith,
       omega arith,
@@ -43,25 +43,25 @@ loop-holds c =
           ∙ sym (fours-sums n (take 508 s) 0 0 0 0 0 0 (omega (arith, length-take 508 s)) (omega (arith, mul-zero n))),
     )
 
-loop-again : tie.Need-loop-preserved invariant-loop decreases-loop
+loop-again : tie.Need-loop-i-preserved invariant-loop decreases-loop
 loop-again c =
     let l = c.before.before.before in
     let s = l.before.before.before.before.before.args.s.now in (
-      l.loop.invariant.0,
+      l.loop-i.invariant.0,
       omega arith,
       omega arith,
       omega arith,
-      sym (sums-step s l.loop.i 508 l.loop.a l.loop.b c.wide32.result (omega arith) c.wide32.ensures.0) ∙ l.loop.invariant.4,
+      sym (sums-step s l.loop-i.i 508 l.loop-i.a l.loop-i.b c.wide32-a.result (omega arith) c.wide32-a.ensures.0) ∙ l.loop-i.invariant.4,
     )
 
 returns : tie.Need-returns invariant-loop decreases-loop
 returns c =
     let l = c.before in
     let s = l.before.before.before.before.before.args.s.now in
-    sym l.loop.invariant.4 ∙ sums-done s l.loop.i 508 (l.loop.a % 65_521) (l.loop.b % 65_521) (omega arith)
+    sym l.loop-i.invariant.4 ∙ sums-done s l.loop-i.i 508 (l.loop-i.a % 65_521) (l.loop-i.b % 65_521) (omega arith)
 
-pub sums-of-spec : {M : Type 1} → statement M
-sums-of-spec =
+pub sums_of_spec : {M : Type 1} → statement M
+sums_of_spec =
     tie.close
     (tie.spec
     invariant-loop
