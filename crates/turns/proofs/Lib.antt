@@ -5,8 +5,6 @@ pub mod Form
 pub mod Cascade
 pub mod Calls
 pub mod InTurn
-pub mod Thin
-pub mod ThinAlone
 pub mod TakingTurns
 pub mod Traces
 pub mod Refusing

@@ -5,59 +5,59 @@ use Rattle.commits.proofs.Rows.{row-added, row_by, row_copied, row-deleted, row-
 use Rattle.commits.proofs.row_of.Statement.{statement}
 use Rattle.commits.proofs.row_of.Tie as tie
 
-returns : tie.Need-returns
+returns : tie.Need-returns-then-state-eq2
 returns c =
-    let a = c.before.before.before.before.before.before.before.before.before.before.args in
+    let a = c.args in
     row_by
-    (row-added a.copy.now a.changed.now a.places.now a.sheet a.next c.before.if1.true)
-    c.row-with.ensures
+    (row-added a.copy.now a.changed.now a.places.now a.sheet a.next c.if-state-eq2.true)
+    c.row_with.ensures
 
-returns-2 : tie.Need-returns-2
+returns-2 : tie.Need-returns-then-state-eq3
 returns-2 c =
-    let a = c.before.before.before.before.before.before.before.before.before.before.before.args in
+    let a = c.args in
     row_by
-    (row-deleted a.copy.now a.changed.now a.places.now a.sheet a.next c.before.before.if1.false c.before.if2.true)
-    c.row-with2.ensures
+    (row-deleted a.copy.now a.changed.now a.places.now a.sheet a.next c.if-state-eq2.false c.if-state-eq3.true)
+    c.row_with-then-state-eq3.ensures
 
-returns-3 : tie.Need-returns-3
+returns-3 : tie.Need-returns-then-flag-eq0
 returns-3 c =
-    let a = c.before.before.before.before.before.before.before.before.before.before.before.before.before.args in
-    let t = c.before.before.before.before.before.before.before.get16 in
+    let a = c.args in
+    let t = c.get16-revision in
     row_by
-    (row_shared a.copy.now a.changed.now a.places.now a.sheet a.next c.before.before.before.before.if1.false c.before.before.before.if2.false t.result t.ensures c.before.before.if3.true c.before.if4.true)
-    c.row-with3.ensures
+    (row_shared a.copy.now a.changed.now a.places.now a.sheet a.next c.if-state-eq2.false c.if-state-eq3.false t.result t.ensures c.if-state-eq4.true c.if-flag-eq0.true)
+    c.row_with-then-flag-eq0.ensures
 
-returns-4 : tie.Need-returns-4
+returns-4 : tie.Need-returns-then-state-eq4
 returns-4 c =
-    let a = c.before.before.before.before.before.before.before.before.before.before.before.before.before.args in
-    let t = c.before.before.before.before.before.before.before.get16 in
+    let a = c.args in
+    let t = c.get16-revision in
     row_by
-    (row_copied a.copy.now a.changed.now a.places.now a.sheet a.next c.before.before.before.before.if1.false c.before.before.before.if2.false t.result t.ensures c.before.before.if3.true c.before.if4.false)
-    c.row-with4.ensures
+    (row_copied a.copy.now a.changed.now a.places.now a.sheet a.next c.if-state-eq2.false c.if-state-eq3.false t.result t.ensures c.if-state-eq4.true c.if-flag-eq0.false)
+    c.row_with-then-state-eq4.ensures
 
-returns-5 : tie.Need-returns-5
+returns-5 : tie.Need-returns-then-state-ne1
 returns-5 c =
-    let a = c.before.before.before.before.before.before.before.before.before.before.before.before.before.args in
+    let a = c.args in
     row_by
-    (row-empty a.copy.now a.changed.now a.places.now a.sheet a.next c.before.before.before.before.if1.false c.before.before.before.if2.false c.before.before.if3.false c.before.if5.true)
-    c.row-with5.ensures
+    (row-empty a.copy.now a.changed.now a.places.now a.sheet a.next c.if-state-eq2.false c.if-state-eq3.false c.if-state-eq4.false c.if-state-ne1.true)
+    c.row_with-then-state-ne1.ensures
 
-returns-6 : tie.Need-returns-6
+returns-6 : tie.Need-returns-then-flag-ne0
 returns-6 c =
-    let a = c.before.before.before.before.before.before.before.before.before.before.before.before.before.before.args in
+    let a = c.args in
     row_by
-    (row-modified a.copy.now a.changed.now a.places.now a.sheet a.next c.before.before.before.before.before.if1.false c.before.before.before.before.if2.false c.before.before.before.if3.false c.before.before.if5.false c.before.if6.true)
-    c.row-with6.ensures
+    (row-modified a.copy.now a.changed.now a.places.now a.sheet a.next c.if-state-eq2.false c.if-state-eq3.false c.if-state-eq4.false c.if-state-ne1.false c.if-flag-ne0.true)
+    c.row_with-then-flag-ne0.ensures
 
-returns-7 : tie.Need-returns-7
+returns-7 : tie.Need-returns
 returns-7 c =
-    let a = c.before.before.before.before.before.before.before.before.before.before.before.before.before.before.args in
+    let a = c.args in
     row_by
-    (row_same a.copy.now a.changed.now a.places.now a.sheet a.next c.before.before.before.before.before.if1.false c.before.before.before.before.if2.false c.before.before.before.if3.false c.before.before.if5.false c.before.if6.false)
-    c.row-with7.ensures
+    (row_same a.copy.now a.changed.now a.places.now a.sheet a.next c.if-state-eq2.false c.if-state-eq3.false c.if-state-eq4.false c.if-state-ne1.false c.if-flag-ne0.false)
+    c.row_with-2.ensures
 
-pub row-of-spec : {M : Type 1} → statement M
-row-of-spec =
+pub row_of_spec : {M : Type 1} → statement M
+row_of_spec =
     tie.close
     (tie.spec
     (λ c. search rules)

@@ -10,47 +10,47 @@ use Rattle.local.proofs.Tests.{delete-done, delete_far, delete_missing}
 use Rattle.local.proofs.delete.Statement.{statement}
 use Rattle.local.proofs.delete.Tie as tie
 
-returns : tie.Need-returns
-returns c = delete_far c.before.before.args.copy.now c.before.before.args.sheet c.if1.true
+returns : tie.Need-returns-then-sheet-gt31
+returns c = delete_far c.args.copy.now c.args.sheet c.if-sheet-gt31.true
 
-entry-at-requires : tie.Need-entry-at-requires
+entry-at-requires : tie.Need-entry_at-old-requires
 entry-at-requires c κs = search rules
 
-nothing-in-requires : tie.Need-nothing-in-requires
+nothing-in-requires : tie.Need-nothing_in-requires
 nothing-in-requires c κs = search rules
 
-same_length : tie.Need-same-length
+same_length : tie.Need-shape_of-copy-then-nothing_in
 same_length c = search rules
 
-returns-2 : tie.Need-returns-2
+returns-2 : tie.Need-returns-then-nothing_in
 returns-2 c =
-    let a = c.before.before.before.before.before.before.args in
-    let e = c.before.before.entry_at in
-    delete_missing a.copy.now a.sheet c.before.before.before.before.if1.false (was_nothing a.copy.now a.sheet e.result e.ensures c.before.nothing-in.ensures c.if2.true)
+    let a = c.args in
+    let e = c.entry_at-old in
+    delete_missing a.copy.now a.sheet c.if-sheet-gt31.false (was_nothing a.copy.now a.sheet e.result e.ensures c.nothing_in.ensures c.if-nothing_in.true)
 
-after-delete-requires : tie.Need-after-delete-requires
+after-delete-requires : tie.Need-after_delete-state-requires
 after-delete-requires c κs = search rules
 
-set-entry-requires : tie.Need-set-entry-requires
+set-entry-requires : tie.Need-set_entry-requires
 set-entry-requires c κs =
-    let a = c.before.before.before.before.before.before.before.before.args in
-    let e = c.before.before.before.before.entry_at in
-    delete-put a.copy.now c.before.before.before.before.before.before.before.before.requires a.sheet c.before.before.before.before.before.before.if1.false e.result e.ensures c.before.after-delete.result c.before.after-delete.ensures
+    let a = c.args in
+    let e = c.entry_at-old in
+    delete-put a.copy.now c.requires a.sheet c.if-sheet-gt31.false e.result e.ensures c.after_delete-state.result c.after_delete-state.ensures
 
-same-length-2 : tie.Need-same-length-2
+same-length-2 : tie.Need-shape_of-copy
 same-length-2 c = search rules
 
-returns-3 : tie.Need-returns-3
+returns-3 : tie.Need-returns
 returns-3 c =
-    let a = c.before.before.before.before.before.before.before.before.before.before.before.args in
+    let a = c.args in
     let l = a.copy.now in
-    let e = c.before.before.before.before.before.before.before.entry_at in
-    delete-done l a.sheet c.before.before.before.before.before.before.before.before.before.if1.false (was_nothing l a.sheet e.result e.ensures c.before.before.before.before.before.before.nothing-in.ensures c.before.before.before.before.before.if2.false)
-    (c.before.before.set-entry.ensures
-    ∙ ap (λ (x : Entry). copy_bytes (seat_of l) (set (entries_of l) a.sheet x)) (delete_is l c.before.before.before.before.before.before.before.before.before.before.before.requires a.sheet c.before.before.before.before.before.before.before.before.before.if1.false e.result e.ensures c.before.before.before.before.after-delete.result c.before.before.before.before.after-delete.ensures))
+    let e = c.entry_at-old in
+    delete-done l a.sheet c.if-sheet-gt31.false (was_nothing l a.sheet e.result e.ensures c.nothing_in.ensures c.if-nothing_in.false)
+    (c.set_entry.ensures
+    ∙ ap (λ (x : Entry). copy_bytes (seat_of l) (set (entries_of l) a.sheet x)) (delete_is l c.requires a.sheet c.if-sheet-gt31.false e.result e.ensures c.after_delete-state.result c.after_delete-state.ensures))
 
-pub delete-spec : {M : Type 1} → statement M
-delete-spec =
+pub delete_spec : {M : Type 1} → statement M
+delete_spec =
     tie.close
     (tie.spec
     returns

@@ -13,14 +13,14 @@ use Rattle.marks.proofs.Walk.{lent_size}
 use Rattle.marks.proofs.greatest.Statement.{statement}
 use Rattle.marks.proofs.greatest.Tie as tie
 
-abbrev invariant-loop : tie.invariant-loop
+abbrev invariant-loop : tie.invariant-loop-p
 invariant-loop store n r most₀ p₀ most p =
     (p ≤ n) × (greater most (greatest r (revisions_left store n p)) ≡ panel_revision (marks (log_all (blocks_of n store))) r)
 
-abbrev decreases-loop : tie.decreases-loop
+abbrev decreases-loop : tie.decreases-loop-p
 decreases-loop store n r most₀ p₀ most p = n - p
 
-loop-holds : tie.Need-loop-init invariant-loop decreases-loop
+loop-holds : tie.Need-loop-p-init invariant-loop decreases-loop
 loop-holds c =
     let k = c.before in
     let s = k.args.store.now in
@@ -30,62 +30,62 @@ loop-holds c =
       greatest_start (greatest r (revisions_left s n 0)) ∙ ap (greatest r) (revisions_all s n ∙ laid_revisions s n k.requires),
     )
 
-mul-a : tie.Need-overflow-mul-a invariant-loop decreases-loop
+mul-a : tie.Need-overflow_mul-a invariant-loop decreases-loop
 mul-a c = omega (arith, c.before.before.before.requires.few)
 
-add-e : tie.Need-overflow-add-e invariant-loop decreases-loop
+add-e : tie.Need-overflow_add-e invariant-loop decreases-loop
 add-e c = omega (arith, c.before.before.before.requires.few)
 
-add-p : tie.Need-overflow-add-p invariant-loop decreases-loop
+add-p : tie.Need-overflow_add-p invariant-loop decreases-loop
 add-p c = omega (arith, c.before.before.before.requires.few)
 
-sub-released-at : tie.Need-overflow-sub-released-at invariant-loop decreases-loop
+sub-released-at : tie.Need-slice_bounds-released_at-count invariant-loop decreases-loop
 sub-released-at c = search rules
 
-part-released-at-start : tie.Need-slice-bounds-released-at-start invariant-loop decreases-loop
+part-released-at-start : tie.Need-slice_bounds-released_at-start invariant-loop decreases-loop
 part-released-at-start c = search rules
 
-part-released-at-end : tie.Need-slice-bounds-released-at-end invariant-loop decreases-loop
+part-released-at-end : tie.Need-slice_bounds-released_at-end invariant-loop decreases-loop
 part-released-at-end c = omega (arith, c.before.before.before.requires.room)
 
-released-at-requires : tie.Need-released-at-requires invariant-loop decreases-loop
+released-at-requires : tie.Need-released_at-x-requires invariant-loop decreases-loop
 released-at-requires c κs =
     let k = c.before.before.before.before in
-    let l = c.before.before.loop in
+    let l = c.before.before.loop-p in
     lent_size k.args.store.now k.args.n l.p k.requires.room (omega arith)
 
-loop-less : tie.Need-loop-smaller invariant-loop decreases-loop
+loop-less : tie.Need-loop-p-smaller-then-r-x invariant-loop decreases-loop
 loop-less c = search rules
 
-loop-again : tie.Need-loop-preserved invariant-loop decreases-loop
+loop-again : tie.Need-loop-p-preserved-then-r-x invariant-loop decreases-loop
 loop-again c =
     let k = c.before.before.before.before.before.before in
-    let l = c.before.before.before.before.loop in
-    let x = c.before.released-at in (
+    let l = c.before.before.before.before.loop-p in
+    let x = c.before.released_at-x in (
       omega arith,
       greatest_above k.args.store.now k.args.n l.p k.args.r l.most _ l.invariant.1 (omega arith) x.result x.ensures (omega arith),
     )
 
-loop-less-2 : tie.Need-loop-smaller-2 invariant-loop decreases-loop
+loop-less-2 : tie.Need-loop-p-smaller-then-x-most invariant-loop decreases-loop
 loop-less-2 c = search rules
 
-loop-again-2 : tie.Need-loop-preserved-2 invariant-loop decreases-loop
+loop-again-2 : tie.Need-loop-p-preserved-then-x-most invariant-loop decreases-loop
 loop-again-2 c =
     let k = c.before.before.before.before.before.before.before in
-    let l = c.before.before.before.before.before.loop in
-    let x = c.before.before.released-at in (
+    let l = c.before.before.before.before.before.loop-p in
+    let x = c.before.before.released_at-x in (
       omega arith,
       greatest_less k.args.store.now k.args.n l.p k.args.r l.most _ l.invariant.1 (omega arith) x.result x.ensures (omega arith) (omega arith),
     )
 
-loop-less-3 : tie.Need-loop-smaller-3 invariant-loop decreases-loop
+loop-less-3 : tie.Need-loop-p-smaller invariant-loop decreases-loop
 loop-less-3 c = search rules
 
-loop-again-3 : tie.Need-loop-preserved-3 invariant-loop decreases-loop
+loop-again-3 : tie.Need-loop-p-preserved invariant-loop decreases-loop
 loop-again-3 c =
     let k = c.before.before.before.before.before.before.before in
-    let l = c.before.before.before.before.before.loop in
-    let x = c.before.before.released-at in (
+    let l = c.before.before.before.before.before.loop-p in
+    let x = c.before.before.released_at-x in (
       omega arith,
       greatest_more k.args.store.now k.args.n l.p k.args.r l.most _ l.invariant.1 (omega arith) x.result x.ensures (omega arith) (omega arith),
     )
@@ -93,11 +93,11 @@ loop-again-3 c =
 returns : tie.Need-returns invariant-loop decreases-loop
 returns c =
     let k = c.before.before.before in
-    let l = c.before.loop in
+    let l = c.before.loop-p in
     greatest-done k.args.store.now k.args.n l.p k.args.r l.most _ l.invariant.1 (omega arith)
 
-pub greatest-spec : {M : Type 1} → statement M
-greatest-spec =
+pub greatest_spec : {M : Type 1} → statement M
+greatest_spec =
     tie.close
     (tie.spec
     invariant-loop

@@ -13,21 +13,21 @@ use Rattle.marks.proofs.Walk.{lent_size}
 use Rattle.marks.proofs.is_released.Statement.{statement}
 use Rattle.marks.proofs.is_released.Tie as tie
 
-abbrev invariant-loop : tie.invariant-loop
+abbrev invariant-loop : tie.invariant-loop-left
 invariant-loop store n r k₀ k = (k ≤ n) × (among r (revisions_left store n (n - k)) ≡ among r (releases (marks (log_all (blocks_of n store)))))
 
-abbrev decreases-loop : tie.decreases-loop
+abbrev decreases-loop : tie.decreases-loop-left
 decreases-loop store n r k₀ k = k
 
-returns : tie.Need-returns invariant-loop decreases-loop
+returns : tie.Need-returns-then-r-eq0 invariant-loop decreases-loop
 returns c =
     let k = c.before.before in
     let s = k.args.store.now in
     let n = k.args.n in
-    let z : k.args.r ≡ 0 = c.if1.true in
+    let z : k.args.r ≡ 0 = c.if-r-eq0.true in
     sym (ap (λ (x : ℕ). among x (releases (marks (log_all (blocks_of n s))))) z ∙ ap (among 0) (sym (laid_revisions s n k.requires)) ∙ among-zero (blocks_of n s))
 
-loop-holds : tie.Need-loop-init invariant-loop decreases-loop
+loop-holds : tie.Need-loop-left-init invariant-loop decreases-loop
 loop-holds c =
     let k = c.before.before in
     let s = k.args.store.now in
@@ -35,64 +35,64 @@ loop-holds c =
     let e : n - n ≡ 0 = omega arith in
     (omega arith, ap (λ (p : ℕ). among k.args.r (revisions_left s n p)) e ∙ ap (among k.args.r) (revisions_all s n ∙ laid_revisions s n k.requires))
 
-sub-a : tie.Need-overflow-sub-a invariant-loop decreases-loop
+sub-a : tie.Need-overflow_sub-a invariant-loop decreases-loop
 sub-a c = search rules
 
-mul-a : tie.Need-overflow-mul-a invariant-loop decreases-loop
+mul-a : tie.Need-overflow_mul-a invariant-loop decreases-loop
 mul-a c = omega (arith, c.before.before.before.before.requires.few)
 
-add-e : tie.Need-overflow-add-e invariant-loop decreases-loop
+add-e : tie.Need-overflow_add-e invariant-loop decreases-loop
 add-e c = omega (arith, c.before.before.before.before.requires.few)
 
-sub-released-at : tie.Need-overflow-sub-released-at invariant-loop decreases-loop
+sub-released-at : tie.Need-slice_bounds-released_at-count invariant-loop decreases-loop
 sub-released-at c = search rules
 
-part-released-at-start : tie.Need-slice-bounds-released-at-start invariant-loop decreases-loop
+part-released-at-start : tie.Need-slice_bounds-released_at-start invariant-loop decreases-loop
 part-released-at-start c = search rules
 
-part-released-at-end : tie.Need-slice-bounds-released-at-end invariant-loop decreases-loop
+part-released-at-end : tie.Need-slice_bounds-released_at-end invariant-loop decreases-loop
 part-released-at-end c = omega (arith, c.before.before.before.before.requires.room)
 
-released-at-requires : tie.Need-released-at-requires invariant-loop decreases-loop
+released-at-requires : tie.Need-released_at-requires invariant-loop decreases-loop
 released-at-requires c κs =
     let k = c.before.before.before.before.before in
-    let l = c.before.before.loop in
+    let l = c.before.before.loop-left in
     lent_size k.args.store.now k.args.n (k.args.n - l.left) k.requires.room (omega arith)
 
-returns-2 : tie.Need-returns-2 invariant-loop decreases-loop
+returns-2 : tie.Need-returns-then-released_at-r invariant-loop decreases-loop
 returns-2 c =
     let k = c.before.before.before.before.before.before.before in
-    let l = c.before.before.before.before.loop in
-    let x = c.before.released-at in
-    among-found k.args.store.now k.args.n (k.args.n - l.left) k.args.r _ l.invariant.1 (omega arith) (omega arith) x.result x.ensures c.if2.true
+    let l = c.before.before.before.before.loop-left in
+    let x = c.before.released_at in
+    among-found k.args.store.now k.args.n (k.args.n - l.left) k.args.r _ l.invariant.1 (omega arith) (omega arith) x.result x.ensures c.if-released_at-r.true
 
-sub-left : tie.Need-overflow-sub-left invariant-loop decreases-loop
+sub-left : tie.Need-overflow_sub-left invariant-loop decreases-loop
 sub-left c = search rules
 
-loop-less : tie.Need-loop-smaller invariant-loop decreases-loop
+loop-less : tie.Need-loop-left-smaller invariant-loop decreases-loop
 loop-less c = search rules
 
-loop-again : tie.Need-loop-preserved invariant-loop decreases-loop
+loop-again : tie.Need-loop-left-preserved invariant-loop decreases-loop
 loop-again c =
     let k = c.before.before.before.before.before.before.before in
     let s = k.args.store.now in
     let n = k.args.n in
-    let l = c.before.before.before.before.loop in
-    let x = c.before.released-at in
+    let l = c.before.before.before.before.loop-left in
+    let x = c.before.released_at in
     let e : n - (l.left - 1) ≡ n - l.left + 1 = omega arith in (
       omega arith,
       ap (λ (p : ℕ). among k.args.r (revisions_left s n p)) e
-          ∙ among-not s n (n - l.left) k.args.r _ l.invariant.1 (omega arith) (omega arith) x.result x.ensures c.if2.false,
+          ∙ among-not s n (n - l.left) k.args.r _ l.invariant.1 (omega arith) (omega arith) x.result x.ensures c.if-released_at-r.false,
     )
 
-returns-3 : tie.Need-returns-3 invariant-loop decreases-loop
+returns-3 : tie.Need-returns invariant-loop decreases-loop
 returns-3 c =
     let k = c.before.before.before.before in
-    let l = c.before.loop in
+    let l = c.before.loop-left in
     among-done k.args.store.now k.args.n (k.args.n - l.left) k.args.r _ l.invariant.1 (omega arith)
 
-pub is-released-spec : {M : Type 1} → statement M
-is-released-spec =
+pub is_released_spec : {M : Type 1} → statement M
+is_released_spec =
     tie.close
     (tie.spec
     invariant-loop

@@ -6,20 +6,20 @@ use Rattle.marks.proofs.Turns.{revision_is, revision-not}
 use Rattle.marks.proofs.released_at.Statement.{statement}
 use Rattle.marks.proofs.released_at.Tie as tie
 
-shared-slice-read-if1 : tie.Need-shared-slice-read-if1
+shared-slice-read-if1 : tie.Need-bounds-b-0
 shared-slice-read-if1 c = search rules
 
-returns : tie.Need-returns
-returns c = revision-not c.before.before.before.args.b.now c.if1.true
+returns : tie.Need-returns-then-b-ne6
+returns c = revision-not c.before.before.before.args.b.now c.if-b-ne6.true
 
 get16-requires : tie.Need-get16-requires
 get16-requires c κs = search rules
 
-cast-result : tie.Need-overflow-cast-result
+cast-result : tie.Need-overflow_cast-result
 cast-result c = search rules
 
-returns-2 : tie.Need-returns-2
-returns-2 c = c.get16.ensures ∙ revision_is c.before.before.before.before.args.b.now c.before.if1.false
+returns-2 : tie.Need-returns
+returns-2 c = c.get16.ensures ∙ revision_is c.before.before.before.before.args.b.now c.before.if-b-ne6.false
 
-pub released-at-spec : {M : Type 1} → statement M
-released-at-spec = tie.close (tie.spec shared-slice-read-if1 returns get16-requires cast-result returns-2)
+pub released_at_spec : {M : Type 1} → statement M
+released_at_spec = tie.close (tie.spec shared-slice-read-if1 returns get16-requires cast-result returns-2)

@@ -14,14 +14,14 @@ use Rattle.marks.proofs.Walk.{left, left-all, lent_size}
 use Rattle.marks.proofs.together.Statement.{statement}
 use Rattle.marks.proofs.together.Tie as tie
 
-abbrev invariant-loop : tie.invariant-loop
+abbrev invariant-loop : tie.invariant-loop-p
 invariant-loop store n seen₀ p₀ seen p =
     (p ≤ n) × (length seen ≡ 4_096) × Low (left store n p) × (apart seen (revisions_left store n p) ≡ once (revisions_in (blocks_of n store)))
 
-abbrev decreases-loop : tie.decreases-loop
+abbrev decreases-loop : tie.decreases-loop-p
 decreases-loop store n seen₀ p₀ seen p = n - p
 
-loop-holds : tie.Need-loop-init invariant-loop decreases-loop
+loop-holds : tie.Need-loop-p-init invariant-loop decreases-loop
 loop-holds c =
     let k = c.before in
     let s = k.args.store.now in
@@ -32,94 +32,94 @@ loop-holds c =
       apart-all 4_096 (revisions_left s n 0) ∙ ap once (revisions_all s n),
     )
 
-mul-a : tie.Need-overflow-mul-a invariant-loop decreases-loop
+mul-a : tie.Need-overflow_mul-a invariant-loop decreases-loop
 mul-a c = omega (arith, c.before.before.before.requires.few)
 
-add-e : tie.Need-overflow-add-e invariant-loop decreases-loop
+add-e : tie.Need-overflow_add-e invariant-loop decreases-loop
 add-e c = omega (arith, c.before.before.before.requires.few)
 
-add-p : tie.Need-overflow-add-p invariant-loop decreases-loop
+add-p : tie.Need-overflow_add-p invariant-loop decreases-loop
 add-p c = omega (arith, c.before.before.before.requires.few)
 
-sub-released-at : tie.Need-overflow-sub-released-at invariant-loop decreases-loop
+sub-released-at : tie.Need-slice_bounds-released_at-count invariant-loop decreases-loop
 sub-released-at c = search rules
 
-part-released-at-start : tie.Need-slice-bounds-released-at-start invariant-loop decreases-loop
+part-released-at-start : tie.Need-slice_bounds-released_at-start invariant-loop decreases-loop
 part-released-at-start c = search rules
 
-part-released-at-end : tie.Need-slice-bounds-released-at-end invariant-loop decreases-loop
+part-released-at-end : tie.Need-slice_bounds-released_at-end invariant-loop decreases-loop
 part-released-at-end c = omega (arith, c.before.before.before.requires.room)
 
-released-at-requires : tie.Need-released-at-requires invariant-loop decreases-loop
+released-at-requires : tie.Need-released_at-x-requires invariant-loop decreases-loop
 released-at-requires c κs =
     let k = c.before.before.before.before in
-    let l = c.before.before.loop in
+    let l = c.before.before.loop-p in
     lent_size k.args.store.now k.args.n l.p k.requires.room (omega arith)
 
-cast-x : tie.Need-overflow-cast-x invariant-loop decreases-loop
+cast-x : tie.Need-overflow_cast-x invariant-loop decreases-loop
 cast-x c = search rules
 
-loop-less : tie.Need-loop-smaller invariant-loop decreases-loop
+loop-less : tie.Need-loop-p-smaller-then-x-eq0 invariant-loop decreases-loop
 loop-less c = search rules
 
-loop-again : tie.Need-loop-preserved invariant-loop decreases-loop
+loop-again : tie.Need-loop-p-preserved-then-x-eq0 invariant-loop decreases-loop
 loop-again c =
     let k = c.before.before.before.before.before.before in
     let s = k.args.store.now in
     let n = k.args.n in
-    let l = c.before.before.before.before.loop in
-    let x = c.before.released-at in (
+    let l = c.before.before.before.before.loop-p in
+    let x = c.before.released_at-x in (
       omega arith,
       l.invariant.1,
       low-rest s n l.p (omega arith) l.invariant.2,
-      apart-skip s n l.p l.seen _ l.invariant.3 (omega arith) x.result x.ensures c.if1.true,
+      apart-skip s n l.p l.seen _ l.invariant.3 (omega arith) x.result x.ensures c.if-x-eq0.true,
     )
 
-array-read-if2 : tie.Need-array-read-if2 invariant-loop decreases-loop
+array-read-if2 : tie.Need-bounds-seen-x invariant-loop decreases-loop
 array-read-if2 c =
     let k = c.before.before.before.before.before.before in
-    let l = c.before.before.before.before.loop in
-    low_first k.args.store.now k.args.n l.p (omega arith) l.invariant.2 c.before.released-at.ensures
+    let l = c.before.before.before.before.loop-p in
+    low_first k.args.store.now k.args.n l.p (omega arith) l.invariant.2 c.before.released_at-x.ensures
 
-returns : tie.Need-returns invariant-loop decreases-loop
+returns : tie.Need-returns-then-seen-x-ne0 invariant-loop decreases-loop
 returns c =
     let k = c.before.before.before.before.before.before.before in
-    let l = c.before.before.before.before.before.loop in
-    let x = c.before.before.released-at in
-    apart_fails k.args.store.now k.args.n l.p l.seen _ l.invariant.3 (omega arith) x.result x.ensures c.before.if1.false c.if2.true
+    let l = c.before.before.before.before.before.loop-p in
+    let x = c.before.before.released_at-x in
+    apart_fails k.args.store.now k.args.n l.p l.seen _ l.invariant.3 (omega arith) x.result x.ensures c.before.if-x-eq0.false c.if-seen-x-ne0.true
     ∙ ap once (laid_revisions k.args.store.now k.args.n k.requires)
 
-array-write-seen : tie.Need-array-write-seen invariant-loop decreases-loop
+array-write-seen : tie.Need-bounds-seen-x-in-loop-p invariant-loop decreases-loop
 array-write-seen c =
     let k = c.before.before.before.before.before.before.before in
-    let l = c.before.before.before.before.before.loop in
-    low_first k.args.store.now k.args.n l.p (omega arith) l.invariant.2 c.before.before.released-at.ensures
+    let l = c.before.before.before.before.before.loop-p in
+    low_first k.args.store.now k.args.n l.p (omega arith) l.invariant.2 c.before.before.released_at-x.ensures
 
-loop-less-2 : tie.Need-loop-smaller-2 invariant-loop decreases-loop
+loop-less-2 : tie.Need-loop-p-smaller invariant-loop decreases-loop
 loop-less-2 c = search rules
 
-loop-again-2 : tie.Need-loop-preserved-2 invariant-loop decreases-loop
+loop-again-2 : tie.Need-loop-p-preserved invariant-loop decreases-loop
 loop-again-2 c =
     let k = c.before.before.before.before.before.before.before in
     let s = k.args.store.now in
     let n = k.args.n in
-    let l = c.before.before.before.before.before.loop in
-    let x = c.before.before.released-at in
+    let l = c.before.before.before.before.before.loop-p in
+    let x = c.before.before.released_at-x in
     let lo = low_first s n l.p (omega arith) l.invariant.2 x.ensures in (
       omega arith,
       length-set l.seen x.result 1 ∙ l.invariant.1,
       low-rest s n l.p (omega arith) l.invariant.2,
-      apart-step s n l.p l.seen _ l.invariant.3 (omega arith) x.result x.ensures c.before.if1.false (omega (arith, lo, l.invariant.1)) c.if2.false,
+      apart-step s n l.p l.seen _ l.invariant.3 (omega arith) x.result x.ensures c.before.if-x-eq0.false (omega (arith, lo, l.invariant.1)) c.if-seen-x-ne0.false,
     )
 
-returns-2 : tie.Need-returns-2 invariant-loop decreases-loop
+returns-2 : tie.Need-returns invariant-loop decreases-loop
 returns-2 c =
     let k = c.before.before.before in
-    let l = c.before.loop in
+    let l = c.before.loop-p in
     apart-done k.args.store.now k.args.n l.p l.seen _ l.invariant.3 (omega arith) ∙ ap once (laid_revisions k.args.store.now k.args.n k.requires)
 
-pub together-spec : {M : Type 1} → statement M
-together-spec =
+pub together_spec : {M : Type 1} → statement M
+together_spec =
     tie.close
     (tie.spec
     invariant-loop

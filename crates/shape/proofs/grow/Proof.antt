@@ -27,34 +27,34 @@ invariant-put tab₀ r s base m to i j₀ tab j =
 abbrev decreases-put : tie.decreases-put
 decreases-put tab₀ r s base m to i j₀ tab j = m - j
 
-mul-to : tie.Need-overflow-mul-to invariant-copy decreases-copy invariant-put decreases-put
+mul-to : tie.Need-overflow_mul-to invariant-copy decreases-copy invariant-put decreases-put
 mul-to c = search rules
 
 copy_holds : tie.Need-copy-init invariant-copy decreases-copy invariant-put decreases-put
 copy_holds c = (omega arith, refl, λ x h. refl, λ x h. absurd (omega arith))
 
-add-tab : tie.Need-overflow-add-tab invariant-copy decreases-copy invariant-put decreases-put
+add-tab : tie.Need-overflow_add-tab invariant-copy decreases-copy invariant-put decreases-put
 add-tab c = search rules
 
-sub-tab : tie.Need-overflow-sub-tab invariant-copy decreases-copy invariant-put decreases-put
+sub-tab : tie.Need-overflow_sub-tab invariant-copy decreases-copy invariant-put decreases-put
 sub-tab c = search rules
 
-mul-tab : tie.Need-overflow-mul-tab invariant-copy decreases-copy invariant-put decreases-put
+mul-tab : tie.Need-offset_bounds-tab-to invariant-copy decreases-copy invariant-put decreases-put
 mul-tab c = search rules
 
-slice-read-tab : tie.Need-slice-read-tab invariant-copy decreases-copy invariant-put decreases-put
+slice-read-tab : tie.Need-bounds-tab-to invariant-copy decreases-copy invariant-put decreases-put
 slice-read-tab c = search rules
 
-add-tab-2 : tie.Need-overflow-add-tab-2 invariant-copy decreases-copy invariant-put decreases-put
+add-tab-2 : tie.Need-overflow_add-tab-in-copy invariant-copy decreases-copy invariant-put decreases-put
 add-tab-2 c = search rules
 
-mul-tab-2 : tie.Need-overflow-mul-tab-2 invariant-copy decreases-copy invariant-put decreases-put
+mul-tab-2 : tie.Need-offset_bounds-tab-to-in-copy invariant-copy decreases-copy invariant-put decreases-put
 mul-tab-2 c = search rules
 
-slice-write-tab : tie.Need-slice-write-tab invariant-copy decreases-copy invariant-put decreases-put
+slice-write-tab : tie.Need-bounds-tab-to-in-copy invariant-copy decreases-copy invariant-put decreases-put
 slice-write-tab c = search rules
 
-add-i : tie.Need-overflow-add-i invariant-copy decreases-copy invariant-put decreases-put
+add-i : tie.Need-overflow_add-i invariant-copy decreases-copy invariant-put decreases-put
 add-i c = search rules
 
 copy-less : tie.Need-copy-smaller invariant-copy decreases-copy invariant-put decreases-put
@@ -62,9 +62,9 @@ copy-less c = search rules
 
 copy-again : tie.Need-copy-preserved invariant-copy decreases-copy invariant-put decreases-put
 copy-again c =
-    let a = c.before.before.before.before.before.args in
-    let G = c.before.before.before.before.before.requires in
-    let l = c.before.before.copy in
+    let a = c.args in
+    let G = c.requires in
+    let l = c.copy in
     let at = 32 * a.r + l.i in
     let v = get_or l.tab (at - 32) 0 in
     let from : at - 32 ≡ 32 * (a.r - 1) + l.i = omega (arith, G.some) in (
@@ -80,37 +80,37 @@ copy-again c =
 put_holds : tie.Need-put-init invariant-copy decreases-copy invariant-put decreases-put
 put_holds c = (omega arith, refl, λ x h. refl, refl)
 
-mul_at : tie.Need-overflow-mul-at invariant-copy decreases-copy invariant-put decreases-put
+mul_at : tie.Need-overflow_mul-at invariant-copy decreases-copy invariant-put decreases-put
 mul_at c = search rules
 
-add_at : tie.Need-overflow-add-at invariant-copy decreases-copy invariant-put decreases-put
+add_at : tie.Need-overflow_add-at invariant-copy decreases-copy invariant-put decreases-put
 add_at c = search rules
 
-shared-slice-read-sheet : tie.Need-shared-slice-read-sheet invariant-copy decreases-copy invariant-put decreases-put
+shared-slice-read-sheet : tie.Need-bounds-s-at invariant-copy decreases-copy invariant-put decreases-put
 shared-slice-read-sheet c = search rules
 
-cast-sheet : tie.Need-overflow-cast-sheet invariant-copy decreases-copy invariant-put decreases-put
-cast-sheet c = omega (arith, c.before.before.before.before.before.before.before.requires.sheets c.before.before.put.j (omega arith))
+cast-sheet : tie.Need-overflow_cast-sheet invariant-copy decreases-copy invariant-put decreases-put
+cast-sheet c = omega (arith, c.requires.sheets c.put.j (omega arith))
 
-add-two-at : tie.Need-overflow-add-two-at invariant-copy decreases-copy invariant-put decreases-put
+add-two-at : tie.Need-overflow_add-at-in-put invariant-copy decreases-copy invariant-put decreases-put
 add-two-at c = search rules
 
-two-at-requires : tie.Need-two-at-requires invariant-copy decreases-copy invariant-put decreases-put
+two-at-requires : tie.Need-two_at-block-requires invariant-copy decreases-copy invariant-put decreases-put
 two-at-requires c κs = search rules
 
-cast-block : tie.Need-overflow-cast-block invariant-copy decreases-copy invariant-put decreases-put
+cast-block : tie.Need-overflow_cast-block invariant-copy decreases-copy invariant-put decreases-put
 cast-block c = search rules
 
-add-tab-3 : tie.Need-overflow-add-tab-3 invariant-copy decreases-copy invariant-put decreases-put
-add-tab-3 c = omega (arith, c.before.before.before.before.before.before.before.before.requires.sheets c.before.before.before.put.j (omega arith))
+add-tab-3 : tie.Need-overflow_add-tab-in-put invariant-copy decreases-copy invariant-put decreases-put
+add-tab-3 c = omega (arith, c.requires.sheets c.put.j (omega arith))
 
-mul-tab-3 : tie.Need-overflow-mul-tab-3 invariant-copy decreases-copy invariant-put decreases-put
-mul-tab-3 c = omega (arith, c.before.before.before.before.before.before.before.before.requires.sheets c.before.before.before.put.j (omega arith))
+mul-tab-3 : tie.Need-offset_bounds-tab-to-in-put invariant-copy decreases-copy invariant-put decreases-put
+mul-tab-3 c = omega (arith, c.requires.sheets c.put.j (omega arith))
 
-slice-write-tab-2 : tie.Need-slice-write-tab-2 invariant-copy decreases-copy invariant-put decreases-put
-slice-write-tab-2 c = omega (arith, c.before.before.before.before.before.before.before.before.requires.sheets c.before.before.before.put.j (omega arith))
+slice-write-tab-2 : tie.Need-bounds-tab-to-in-put invariant-copy decreases-copy invariant-put decreases-put
+slice-write-tab-2 c = omega (arith, c.requires.sheets c.put.j (omega arith))
 
-add-j : tie.Need-overflow-add-j invariant-copy decreases-copy invariant-put decreases-put
+add-j : tie.Need-overflow_add-j invariant-copy decreases-copy invariant-put decreases-put
 add-j c = search rules
 
 put-less : tie.Need-put-smaller invariant-copy decreases-copy invariant-put decreases-put
@@ -118,26 +118,26 @@ put-less c = search rules
 
 put-again : tie.Need-put-preserved invariant-copy decreases-copy invariant-put decreases-put
 put-again c =
-    let a = c.before.before.before.before.before.before.before.before.args in
-    let G = c.before.before.before.before.before.before.before.before.requires in
-    let l = c.before.before.before.put in
+    let a = c.args in
+    let G = c.requires in
+    let l = c.put in
     let sheet = get_or a.s.now (a.base + 8 * l.j) 0 in
     let small : sheet < 32 = G.sheets l.j (omega arith) in (
       omega arith,
-      length-set l.tab (32 * a.r + sheet) c.two_at.result ∙ l.invariant.1,
-      (λ x h. get_or-set_other l.tab (32 * a.r + sheet) x c.two_at.result 0 (λ e. omega arith) ∙ l.invariant.2 x h),
-      put_step l.tab a.s.now a.r a.base a.m l.j sheet c.two_at.result (omega arith) small refl c.two_at.ensures.0 ∙ l.invariant.3,
+      length-set l.tab (32 * a.r + sheet) c.two_at-block.result ∙ l.invariant.1,
+      (λ x h. get_or-set_other l.tab (32 * a.r + sheet) x c.two_at-block.result 0 (λ e. omega arith) ∙ l.invariant.2 x h),
+      put_step l.tab a.s.now a.r a.base a.m l.j sheet c.two_at-block.result (omega arith) small refl c.two_at-block.ensures.0 ∙ l.invariant.3,
     )
 
-same_length : tie.Need-same-length invariant-copy decreases-copy invariant-put decreases-put
+same_length : tie.Need-shape_of-tab invariant-copy decreases-copy invariant-put decreases-put
 same_length c = search rules
 
 returns : tie.Need-returns invariant-copy decreases-copy invariant-put decreases-put
 returns c =
-    let S = c.before.before.before.before.before.before in
+    let S = c in
     let a = S.args in
-    let k = c.before.before.before.copy in
-    let l = c.before.put in
+    let k = c.copy in
+    let l = c.put in
     grow_done a.tab.now k.tab l.tab a.s.now a.r a.base a.m l.j S.requires k.invariant.1 (l.invariant.1 ∙ k.invariant.1)
     k.invariant.2 (λ i h. k.invariant.3 i (omega arith)) l.invariant.2 (omega arith) l.invariant.3
 

@@ -7,17 +7,17 @@ use Rattle.shape.proofs.Turns.{kind_is, kind-mark, kind_past}
 use Rattle.shape.proofs.kind.Statement.{statement}
 use Rattle.shape.proofs.kind.Tie as tie
 
-shared-slice-read-k : tie.Need-shared-slice-read-k
+shared-slice-read-k : tie.Need-bounds-s-0
 shared-slice-read-k c = search rules
 
-returns : tie.Need-returns
-returns c = sym (kind_is c.before.before.args.s.now c.if1.true)
+returns : tie.Need-returns-then-k-le3
+returns c = sym (kind_is c.args.s.now c.if-k-le3.true)
 
-returns-2 : tie.Need-returns-2
-returns-2 c = sym (kind-mark c.before.before.before.args.s.now c.if2.true)
+returns-2 : tie.Need-returns-then-k-eq6
+returns-2 c = sym (kind-mark c.args.s.now c.if-k-eq6.true)
 
-returns-3 : tie.Need-returns-3
-returns-3 c = sym (kind_past c.before.before.before.args.s.now c.before.if1.false c.if2.false)
+returns-3 : tie.Need-returns
+returns-3 c = sym (kind_past c.args.s.now c.if-k-le3.false c.if-k-eq6.false)
 
-pub kind-spec : {M : Type 1} → statement M
-kind-spec = tie.close (tie.spec shared-slice-read-k returns returns-2 returns-3)
+pub kind_spec : {M : Type 1} → statement M
+kind_spec = tie.close (tie.spec shared-slice-read-k returns returns-2 returns-3)

@@ -7,17 +7,17 @@ use Rattle.shape.proofs.Shapes.{label-shaped, label_then}
 use Rattle.shape.proofs.label_shape.Statement.{statement}
 use Rattle.shape.proofs.label_shape.Tie as tie
 
-shared-slice-read-if1 : tie.Need-shared-slice-read-if1
+shared-slice-read-if1 : tie.Need-bounds-s-1
 shared-slice-read-if1 c = search rules
 
-returns : tie.Need-returns
-returns c = let k = c.before.before.before in sym (label-shaped k.args.s.now k.requires.0 k.requires.1 ∙ rw (ne_eqb _ _ c.if1.true))
+returns : tie.Need-returns-then-s-ne1
+returns c = let k = c in sym (label-shaped k.args.s.now k.requires.0 k.requires.1 ∙ rw (ne_eqb _ _ c.if-s-ne1.true))
 
 zeros-requires : tie.Need-zeros-requires
 zeros-requires c κs = search rules
 
-returns-2 : tie.Need-returns-2
-returns-2 c = let k = c.before.before.before.before in label_then k.args.s.now k.requires.0 c.zeros.result c.zeros.ensures k.requires.1 c.before.if1.false
+returns-2 : tie.Need-returns
+returns-2 c = let k = c in label_then k.args.s.now k.requires.0 c.zeros.result c.zeros.ensures k.requires.1 c.if-s-ne1.false
 
-pub label-shape-spec : {M : Type 1} → statement M
-label-shape-spec = tie.close (tie.spec shared-slice-read-if1 returns zeros-requires returns-2)
+pub label_shape_spec : {M : Type 1} → statement M
+label_shape_spec = tie.close (tie.spec shared-slice-read-if1 returns zeros-requires returns-2)

@@ -9,82 +9,82 @@ use Rattle.shape.proofs.Turns.{lines-all, lines_none, lines_step, lines_left}
 use Rattle.shape.proofs.lines_shape.Statement.{statement}
 use Rattle.shape.proofs.lines_shape.Tie as tie
 
-abbrev invariant-loop : tie.invariant-loop
+abbrev invariant-loop : tie.invariant-loop-j
 invariant-loop s m j₀ j = (j ≤ m) × (lines_left s m j ≡ lines_left s m 0)
 
-abbrev decreases-loop : tie.decreases-loop
+abbrev decreases-loop : tie.decreases-loop-j
 decreases-loop s m j₀ j = m - j
 
-loop-holds : tie.Need-loop-init invariant-loop decreases-loop
+loop-holds : tie.Need-loop-j-init invariant-loop decreases-loop
 loop-holds c = (omega arith, refl)
 
-mul_at : tie.Need-overflow-mul-at invariant-loop decreases-loop
+mul_at : tie.Need-overflow_mul-at invariant-loop decreases-loop
 mul_at c = search rules
 
-add_at : tie.Need-overflow-add-at invariant-loop decreases-loop
+add_at : tie.Need-overflow_add-at invariant-loop decreases-loop
 add_at c = search rules
 
-add-if1 : tie.Need-overflow-add-if1 invariant-loop decreases-loop
+add-if1 : tie.Need-overflow_add-at-in-loop-j invariant-loop decreases-loop
 add-if1 c = search rules
 
-shared-slice-read-if1 : tie.Need-shared-slice-read-if1 invariant-loop decreases-loop
+shared-slice-read-if1 : tie.Need-bounds-s-at invariant-loop decreases-loop
 shared-slice-read-if1 c = search rules
 
-returns : tie.Need-returns invariant-loop decreases-loop
+returns : tie.Need-returns-then-s-at-lt1 invariant-loop decreases-loop
 returns c =
-    let k = c.before.before.before.before in
-    let l = c.before.before.before.loop in
-    sym (sym (lines-all k.args.s.now k.args.m) ∙ sym l.invariant.1 ∙ lines_step k.args.s.now k.args.m l.j (omega arith) ∙ rw (lt-leb 1 _ c.if1.true))
+    let k = c in
+    let l = c.loop-j in
+    sym (sym (lines-all k.args.s.now k.args.m) ∙ sym l.invariant.1 ∙ lines_step k.args.s.now k.args.m l.j (omega arith) ∙ rw (lt-leb 1 _ c.if-s-at-lt1.true))
 
-add-if2 : tie.Need-overflow-add-if2 invariant-loop decreases-loop
+add-if2 : tie.Need-overflow_add-at-in-loop-j-2 invariant-loop decreases-loop
 add-if2 c = search rules
 
-shared-slice-read-if2 : tie.Need-shared-slice-read-if2 invariant-loop decreases-loop
+shared-slice-read-if2 : tie.Need-bounds-s-at-in-loop-j invariant-loop decreases-loop
 shared-slice-read-if2 c = search rules
 
-returns-2 : tie.Need-returns-2 invariant-loop decreases-loop
+returns-2 : tie.Need-returns-then-s-at-gt4 invariant-loop decreases-loop
 returns-2 c =
-    let k = c.before.before.before.before.before.before in
-    let l = c.before.before.before.before.before.loop in
+    let k = c in
+    let l = c.loop-j in
     sym (sym (lines-all k.args.s.now k.args.m) ∙ sym l.invariant.1 ∙ lines_step k.args.s.now k.args.m l.j (omega arith)
-    ∙ rw (le-leb 1 _ c.before.before.if1.false, lt-leb _ 4 c.if2.true))
+    ∙ rw (le-leb 1 _ c.if-s-at-lt1.false, lt-leb _ 4 c.if-s-at-gt4.true))
 
-add-if3 : tie.Need-overflow-add-if3 invariant-loop decreases-loop
+add-if3 : tie.Need-overflow_add-at-in-loop-j-3 invariant-loop decreases-loop
 add-if3 c = search rules
 
-shared-slice-read-if3 : tie.Need-shared-slice-read-if3 invariant-loop decreases-loop
+shared-slice-read-if3 : tie.Need-bounds-s-at-in-loop-j-2 invariant-loop decreases-loop
 shared-slice-read-if3 c = search rules
 
-returns-3 : tie.Need-returns-3 invariant-loop decreases-loop
+returns-3 : tie.Need-returns-then-s-at-ne0 invariant-loop decreases-loop
 returns-3 c =
-    let k = c.before.before.before.before.before.before.before.before in
-    let l = c.before.before.before.before.before.before.before.loop in
+    let k = c in
+    let l = c.loop-j in
     sym (sym (lines-all k.args.s.now k.args.m) ∙ sym l.invariant.1 ∙ lines_step k.args.s.now k.args.m l.j (omega arith)
-    ∙ rw (le-leb 1 _ c.before.before.before.before.if1.false, le-leb _ 4 c.before.before.if2.false, ne_eqb _ 0 c.if3.true))
+    ∙ rw (le-leb 1 _ c.if-s-at-lt1.false, le-leb _ 4 c.if-s-at-gt4.false, ne_eqb _ 0 c.if-s-at-ne0.true))
 
-add-j : tie.Need-overflow-add-j invariant-loop decreases-loop
+add-j : tie.Need-overflow_add-j invariant-loop decreases-loop
 add-j c = search rules
 
-loop-less : tie.Need-loop-smaller invariant-loop decreases-loop
+loop-less : tie.Need-loop-j-smaller invariant-loop decreases-loop
 loop-less c = search rules
 
-loop-again : tie.Need-loop-preserved invariant-loop decreases-loop
+loop-again : tie.Need-loop-j-preserved invariant-loop decreases-loop
 loop-again c =
-    let k = c.before.before.before.before.before.before.before.before in
-    let l = c.before.before.before.before.before.before.before.loop in (
+    let k = c in
+    let l = c.loop-j in (
       omega arith,
       sym (lines_step k.args.s.now k.args.m l.j (omega arith)
-          ∙ rw (le-leb 1 _ c.before.before.before.before.if1.false, le-leb _ 4 c.before.before.if2.false, eq-eqb _ 0 c.if3.false)) ∙ l.invariant.1,
+          ∙ rw (le-leb 1 _ c.if-s-at-lt1.false, le-leb _ 4 c.if-s-at-gt4.false, eq-eqb _ 0 c.if-s-at-ne0.false)) ∙ l.invariant.1,
     )
 
-returns-4 : tie.Need-returns-4 invariant-loop decreases-loop
+returns-4 : tie.Need-returns invariant-loop decreases-loop
 returns-4 c =
-    let k = c.before.before in
-    let l = c.before.loop in
+    let k = c in
+    let l = c.loop-j in
     sym (sym (lines-all k.args.s.now k.args.m) ∙ sym l.invariant.1 ∙ lines_none k.args.s.now k.args.m l.j (omega arith))
 
-pub lines-shape-spec : {M : Type 1} → statement M
-lines-shape-spec =
+pub lines_shape_spec : {M : Type 1} → statement M
+lines_shape_spec =
     tie.close
     (tie.spec
     invariant-loop

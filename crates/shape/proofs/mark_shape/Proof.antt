@@ -6,17 +6,17 @@ use Rattle.shape.proofs.Shapes.{none-shaped}
 use Rattle.shape.proofs.mark_shape.Statement.{statement}
 use Rattle.shape.proofs.mark_shape.Tie as tie
 
-shared-slice-read-if1 : tie.Need-shared-slice-read-if1
+shared-slice-read-if1 : tie.Need-bounds-s-0
 shared-slice-read-if1 c = search rules
 
-returns : tie.Need-returns
-returns c = let k = c.before.before.before in sym (none-shaped k.args.s.now k.requires.0 k.requires.1 c.if1.true)
+returns : tie.Need-returns-then-s-ne6
+returns c = let k = c in sym (none-shaped k.args.s.now k.requires.0 k.requires.1 c.if-s-ne6.true)
 
-release-shape-requires : tie.Need-release-shape-requires
+release-shape-requires : tie.Need-release_shape-requires
 release-shape-requires c κs = search rules
 
-returns-2 : tie.Need-returns-2
+returns-2 : tie.Need-returns
 returns-2 c = search rules
 
-pub mark-shape-spec : {M : Type 1} → statement M
-mark-shape-spec = tie.close (tie.spec shared-slice-read-if1 returns release-shape-requires returns-2)
+pub mark_shape_spec : {M : Type 1} → statement M
+mark_shape_spec = tie.close (tie.spec shared-slice-read-if1 returns release-shape-requires returns-2)

@@ -12,29 +12,29 @@ use Rattle.shape.proofs.Changes.{each_counted, each-many, zeros_at}
 use Rattle.shape.proofs.one_each.Statement.{statement}
 use Rattle.shape.proofs.one_each.Tie as tie
 
-returns : tie.Need-returns
-returns c = let a = c.before.before.args in sym (each-many a.m a.at a.k (drop a.base a.s.now) (omega arith))
+returns : tie.Need-returns-then-k-gt32
+returns c = let a = c.args in sym (each-many a.m a.at a.k (drop a.base a.s.now) (omega arith))
 
-slice-aggregate-tally : tie.Need-slice-aggregate-tally
+slice-aggregate-tally : tie.Need-slice_bounds-tally-end
 slice-aggregate-tally c = search rules
 
 tally-requires : tie.Need-tally-requires
 tally-requires c κs = (omega arith, omega arith, zeros_at 32)
 
-slice-aggregate-all-are : tie.Need-slice-aggregate-all-are
+slice-aggregate-all-are : tie.Need-slice_bounds-all_are-end
 slice-aggregate-all-are c = search rules
 
-all-are-requires : tie.Need-all-are-requires
+all-are-requires : tie.Need-all_are-requires
 all-are-requires c κs = search rules
 
-returns-2 : tie.Need-returns-2
+returns-2 : tie.Need-returns
 returns-2 c =
-    let a = c.before.before.before.before.before.before.before.args in
-    let t = c.before.before.before.tally in
+    let a = c.args in
+    let t = c.tally in
     let e : a.k - 0 ≡ a.k = omega arith in
     c.all_are.ensures
-    ∙ ap (all_from (λ (q : ℕ). eqb (get_or t.new.1.1.1.1.0 q 0) 1) 0) e
-    ∙ each_counted t.new.1.1.1.1.0 (parse_lines a.m (drop a.base a.s.now)) a.at a.k 32 (omega arith) t.ensures
+    ∙ ap (all_from (λ (q : ℕ). eqb (get_or t.new.counts q 0) 1) 0) e
+    ∙ each_counted t.new.counts (parse_lines a.m (drop a.base a.s.now)) a.at a.k 32 (omega arith) t.ensures
 
-pub one-each-spec : {M : Type 1} → statement M
-one-each-spec = tie.close (tie.spec returns slice-aggregate-tally tally-requires slice-aggregate-all-are all-are-requires returns-2)
+pub one_each_spec : {M : Type 1} → statement M
+one_each_spec = tie.close (tie.spec returns slice-aggregate-tally tally-requires slice-aggregate-all-are all-are-requires returns-2)

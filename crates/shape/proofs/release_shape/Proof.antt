@@ -13,34 +13,34 @@ use Rattle.shape.proofs.Shapes.{release_shaped, release_then, zero_from}
 use Rattle.shape.proofs.release_shape.Statement.{statement}
 use Rattle.shape.proofs.release_shape.Tie as tie
 
-chain : (c : tie.After-shared-slice-known) → shaped fields_of parse fits_block c.before.args.s.now
-    ≡ (zero_from c.before.args.s.now 1 3 && (eqb (get_or c.before.args.s.now 7 0) 0 && zero_from c.before.args.s.now 12 496))
-chain c = release_shaped c.before.args.s.now c.before.requires.0 (λ j. omega (arith, c.shared-slice-known.given j)) c.before.requires.1
+chain : (c : tie.After-shared_slice_known-1) → shaped fields_of parse fits_block c.args.s.now
+    ≡ (zero_from c.args.s.now 1 3 && (eqb (get_or c.args.s.now 7 0) 0 && zero_from c.args.s.now 12 496))
+chain c = release_shaped c.args.s.now c.requires.0 (λ j. omega (arith, c.shared_slice_known-1.given j)) c.requires.1
 
 zeros-requires : tie.Need-zeros-requires
 zeros-requires c κs = search rules
 
-returns : tie.Need-returns
+returns : tie.Need-returns-then-not-zeros
 returns c =
     let k = c.before.before in
-    sym (chain k ∙ rw (sym c.before.zeros.ensures ∙ not-true _ c.if1.true))
+    sym (chain k ∙ rw (sym c.zeros.ensures ∙ c.if-not-zeros.true))
 
-shared-slice-read-if2 : tie.Need-shared-slice-read-if2
+shared-slice-read-if2 : tie.Need-bounds-s-7
 shared-slice-read-if2 c = search rules
 
-returns-2 : tie.Need-returns-2
+returns-2 : tie.Need-returns-then-s-ne0
 returns-2 c =
     let k = c.before.before.before.before in
-    sym (chain k ∙ rw (sym c.before.before.before.zeros.ensures ∙ not-false _ c.before.before.if1.false, ne_eqb _ 0 c.if2.true))
+    sym (chain k ∙ rw (sym c.zeros.ensures ∙ c.if-not-zeros.false, ne_eqb _ 0 c.if-s-ne0.true))
 
 zeros-requires-2 : tie.Need-zeros-requires-2
 zeros-requires-2 c κs = search rules
 
-returns-3 : tie.Need-returns-3
+returns-3 : tie.Need-returns
 returns-3 c =
-    let k = c.before.before.before.before.before in
-    release_then k.before.args.s.now k.before.requires.0 (λ j. omega (arith, k.shared-slice-known.given j)) k.before.requires.1 c.zeros2.result c.zeros2.ensures
-    (sym c.before.before.before.before.zeros.ensures ∙ not-false _ c.before.before.before.if1.false) c.before.if2.false
+    let k = c in
+    release_then k.args.s.now k.requires.0 (λ j. omega (arith, k.shared_slice_known-1.given j)) k.requires.1 c.zeros-2.result c.zeros-2.ensures
+    (sym c.zeros.ensures ∙ c.if-not-zeros.false) c.if-s-ne0.false
 
-pub release-shape-spec : {M : Type 1} → statement M
-release-shape-spec = tie.close (tie.spec zeros-requires returns shared-slice-read-if2 returns-2 zeros-requires-2 returns-3)
+pub release_shape_spec : {M : Type 1} → statement M
+release_shape_spec = tie.close (tie.spec zeros-requires returns shared-slice-read-if2 returns-2 zeros-requires-2 returns-3)

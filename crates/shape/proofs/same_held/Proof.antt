@@ -7,51 +7,51 @@ use Rattle.shape.proofs.Held.{held_part}
 use Rattle.shape.proofs.same_held.Statement.{statement}
 use Rattle.shape.proofs.same_held.Tie as tie
 
-size-requires : tie.Need-size-requires
+size-requires : tie.Need-size-e-requires
 size-requires c κs = search rules
 
-add-e : tie.Need-overflow-add-e
+add-e : tie.Need-overflow_add-e
 add-e c = search rules
 
-size-requires-2 : tie.Need-size-requires-2
+size-requires-2 : tie.Need-size-f-requires
 size-requires-2 c κs = search rules
 
-add-f : tie.Need-overflow-add-f
+add-f : tie.Need-overflow_add-f
 add-f c = search rules
 
-sub-same-part : tie.Need-overflow-sub-same-part
+sub-same-part : tie.Need-slice_bounds-same_part-count
 sub-same-part c = search rules
 
-part-same-part-start : tie.Need-slice-bounds-same-part-start
+part-same-part-start : tie.Need-slice_bounds-same_part-start
 part-same-part-start c = search rules
 
-part-same-part-end : tie.Need-slice-bounds-same-part-end
+part-same-part-end : tie.Need-slice_bounds-same_part-end
 part-same-part-end c = search rules
 
-sub-same-part-2 : tie.Need-overflow-sub-same-part-2
+sub-same-part-2 : tie.Need-slice_bounds-same_part-count-2
 sub-same-part-2 c = search rules
 
-part-same-part-start-2 : tie.Need-slice-bounds-same-part-start-2
+part-same-part-start-2 : tie.Need-slice_bounds-same_part-start-2
 part-same-part-start-2 c = search rules
 
-part-same-part-end-2 : tie.Need-slice-bounds-same-part-end-2
+part-same-part-end-2 : tie.Need-slice_bounds-same_part-end-2
 part-same-part-end-2 c = search rules
 
-same-part-requires : tie.Need-same-part-requires
+same-part-requires : tie.Need-same_part-requires
 same-part-requires c κs = search rules
 
 returns : tie.Need-returns
 returns c =
-    let k = c.before.before.before.before.before.before.before in
-    let n = c.before.before.before.before.size in
-    let m = c.before.before.before.size2 in
-    c.same-part.ensures
+    let k = c in
+    let n = c.size-e in
+    let m = c.size-f in
+    c.same_part.ensures
     ∙ ap₂ same
     (held_part k.args.s.now k.requires.0 n.result n.ensures.0 n.ensures.1)
     (held_part k.args.t.now k.requires.1 m.result m.ensures.0 m.ensures.1)
 
-pub same-held-spec : {M : Type 1} → statement M
-same-held-spec =
+pub same_held_spec : {M : Type 1} → statement M
+same_held_spec =
     tie.close
     (tie.spec
     size-requires

@@ -13,45 +13,45 @@ use Rattle.shape.proofs.Held.{same_size}
 use Rattle.shape.proofs.same_part.Statement.{statement}
 use Rattle.shape.proofs.same_part.Tie as tie
 
-abbrev invariant-loop : tie.invariant-loop
+abbrev invariant-loop : tie.invariant-loop-i
 invariant-loop a b off₀ i₀ off i = (i ≤ length a) × ((eqb off 0 && same (drop i a) (drop i b)) ≡ same a b)
 
-abbrev decreases-loop : tie.decreases-loop
+abbrev decreases-loop : tie.decreases-loop-i
 decreases-loop a b off₀ i₀ off i = length a - i
 
-returns : tie.Need-returns invariant-loop decreases-loop
-returns c = let a = c.before.args in sym (same_size a.a.now a.b.now (λ e. c.if1.true (sym e)))
+returns : tie.Need-returns-then-a-b invariant-loop decreases-loop
+returns c = let a = c.args in sym (same_size a.a.now a.b.now (λ e. c.if-a-b.true (sym e)))
 
-loop-holds : tie.Need-loop-init invariant-loop decreases-loop
+loop-holds : tie.Need-loop-i-init invariant-loop decreases-loop
 loop-holds c = (omega arith, refl)
 
-shared-slice-read-off : tie.Need-shared-slice-read-off invariant-loop decreases-loop
+shared-slice-read-off : tie.Need-bounds-a-i invariant-loop decreases-loop
 shared-slice-read-off c = search rules
 
-shared-slice-read-off-2 : tie.Need-shared-slice-read-off-2 invariant-loop decreases-loop
+shared-slice-read-off-2 : tie.Need-bounds-b-i invariant-loop decreases-loop
 shared-slice-read-off-2 c = search rules
 
-add-i : tie.Need-overflow-add-i invariant-loop decreases-loop
+add-i : tie.Need-overflow_add-i invariant-loop decreases-loop
 add-i c = search rules
 
-loop-less : tie.Need-loop-smaller invariant-loop decreases-loop
+loop-less : tie.Need-loop-i-smaller invariant-loop decreases-loop
 loop-less c = search rules
 
-loop-again : tie.Need-loop-preserved invariant-loop decreases-loop
+loop-again : tie.Need-loop-i-preserved invariant-loop decreases-loop
 loop-again c =
-    let a = c.before.before.before.before.before.args in
-    let l = c.before.before.before.loop in
-    let et : l.i < length a.b.now = omega (arith, c.before.before.before.before.if1.false) in
+    let a = c.args in
+    let l = c.loop-i in
+    let et : l.i < length a.b.now = omega (arith, c.if-a-b.false) in
     (omega arith, part_step a.a.now a.b.now l.off l.i (omega arith) et ∙ l.invariant.1)
 
-returns-2 : tie.Need-returns-2 invariant-loop decreases-loop
+returns-2 : tie.Need-returns invariant-loop decreases-loop
 returns-2 c =
-    let a = c.before.before.before.args in
-    let l = c.before.loop in
-    sym (part_none a.a.now a.b.now l.off l.i (omega arith) (omega (arith, c.before.before.if1.false))) ∙ l.invariant.1
+    let a = c.args in
+    let l = c.loop-i in
+    sym (part_none a.a.now a.b.now l.off l.i (omega arith) (omega (arith, c.if-a-b.false))) ∙ l.invariant.1
 
-pub same-part-spec : {M : Type 1} → statement M
-same-part-spec =
+pub same_part_spec : {M : Type 1} → statement M
+same_part_spec =
     tie.close
     (tie.spec
     invariant-loop

@@ -9,89 +9,89 @@ use Rattle.shape.proofs.Changes.{Tallied, tally_ends, tally_hit, tally_miss, tal
 use Rattle.shape.proofs.tally.Statement.{statement}
 use Rattle.shape.proofs.tally.Tie as tie
 
-abbrev invariant-loop : tie.invariant-loop
+abbrev invariant-loop : tie.invariant-loop-j
 invariant-loop s base m at counts₀ j₀ counts j = Tallied s base m at (length counts₀) counts j
 
-abbrev decreases-loop : tie.decreases-loop
+abbrev decreases-loop : tie.decreases-loop-j
 decreases-loop s base m at counts₀ j₀ counts j = m - j
 
-loop-holds : tie.Need-loop-init invariant-loop decreases-loop
+loop-holds : tie.Need-loop-j-init invariant-loop decreases-loop
 loop-holds c =
-    let k = c.before.before in
+    let k = c in
     let a = k.args in
     tally_starts a.s.now a.base a.m a.at (length a.counts.now) a.counts.now refl k.requires.2
 
-mul-two-at : tie.Need-overflow-mul-two-at invariant-loop decreases-loop
+mul-two-at : tie.Need-overflow_mul-j invariant-loop decreases-loop
 mul-two-at c = search rules
 
-add-two-at : tie.Need-overflow-add-two-at invariant-loop decreases-loop
+add-two-at : tie.Need-overflow_add-base invariant-loop decreases-loop
 add-two-at c = search rules
 
-add-two-at-2 : tie.Need-overflow-add-two-at-2 invariant-loop decreases-loop
+add-two-at-2 : tie.Need-overflow_add-base-in-loop-j invariant-loop decreases-loop
 add-two-at-2 c = search rules
 
-two-at-requires : tie.Need-two-at-requires invariant-loop decreases-loop
+two-at-requires : tie.Need-two_at-p-requires invariant-loop decreases-loop
 two-at-requires c κs = search rules
 
-cast-p : tie.Need-overflow-cast-p invariant-loop decreases-loop
+cast-p : tie.Need-overflow_cast-p invariant-loop decreases-loop
 cast-p c = search rules
 
-add-j : tie.Need-overflow-add-j invariant-loop decreases-loop
+add-j : tie.Need-overflow_add-j invariant-loop decreases-loop
 add-j c = search rules
 
-loop-less : tie.Need-loop-smaller invariant-loop decreases-loop
+loop-less : tie.Need-loop-j-smaller-then-p-at invariant-loop decreases-loop
 loop-less c = search rules
 
-loop-again : tie.Need-loop-preserved invariant-loop decreases-loop
+loop-again : tie.Need-loop-j-preserved-then-p-at invariant-loop decreases-loop
 loop-again c =
-    let a = c.before.before.before.before.before.before.args in
-    let l = c.before.before.before.loop in
-    let e = c.before.two_at.ensures.0 in
+    let a = c.args in
+    let l = c.loop-j in
+    let e = c.two_at-p.ensures.0 in
     tally_miss a.s.now a.base a.m a.at (length a.counts.now) l.invariant (omega arith) (λ q g w. omega (arith, e, w))
 
-loop-less-2 : tie.Need-loop-smaller-2 invariant-loop decreases-loop
+loop-less-2 : tie.Need-loop-j-smaller-then-counts-q invariant-loop decreases-loop
 loop-less-2 c = search rules
 
-loop-again-2 : tie.Need-loop-preserved-2 invariant-loop decreases-loop
+loop-again-2 : tie.Need-loop-j-preserved-then-counts-q invariant-loop decreases-loop
 loop-again-2 c =
-    let a = c.before.before.before.before.before.before.before.args in
-    let l = c.before.before.before.before.loop in
-    let e = c.before.before.two_at.ensures.0 in
+    let a = c.args in
+    let l = c.loop-j in
+    let e = c.two_at-p.ensures.0 in
     tally_miss a.s.now a.base a.m a.at (length a.counts.now) l.invariant (omega arith) (λ q g w. omega (arith, e, w, l.invariant.size))
 
-slice-read-counts : tie.Need-slice-read-counts invariant-loop decreases-loop
+slice-read-counts : tie.Need-bounds-counts-q invariant-loop decreases-loop
 slice-read-counts c = search rules
 
-add-counts : tie.Need-overflow-add-counts invariant-loop decreases-loop
+add-counts : tie.Need-overflow_add-counts invariant-loop decreases-loop
 add-counts c =
-    let a = c.before.before.before.before.before.before.before.before.args in
-    let l = c.before.before.before.before.before.loop in
-    omega (arith, l.invariant.few (c.before.before.before.two_at.result - a.at))
+    let a = c.args in
+    let l = c.loop-j in
+    omega (arith, l.invariant.few (c.two_at-p.result - a.at))
 
-slice-write-counts : tie.Need-slice-write-counts invariant-loop decreases-loop
+slice-write-counts : tie.Need-bounds-counts-q-in-loop-j invariant-loop decreases-loop
 slice-write-counts c = search rules
 
-loop-less-3 : tie.Need-loop-smaller-3 invariant-loop decreases-loop
+loop-less-3 : tie.Need-loop-j-smaller invariant-loop decreases-loop
 loop-less-3 c = search rules
 
-loop-again-3 : tie.Need-loop-preserved-3 invariant-loop decreases-loop
+loop-again-3 : tie.Need-loop-j-preserved invariant-loop decreases-loop
 loop-again-3 c =
-    let a = c.before.before.before.before.before.before.before.before.args in
-    let l = c.before.before.before.before.before.loop in
-    let p = c.before.before.before.two_at.result in
-    let e = c.before.before.before.two_at.ensures.0 in
+    let a = c.args in
+    let l = c.loop-j in
+    let p = c.two_at-p.result in
+    let e = c.two_at-p.ensures.0 in
     tally_hit a.s.now a.base a.m a.at (length a.counts.now) l.invariant (omega arith) (p - a.at) (omega (arith, l.invariant.size)) (sym e ∙ omega arith)
 
-same_length : tie.Need-same-length invariant-loop decreases-loop
-same_length c = c.before.loop.invariant.size
+same_length : tie.Need-shape_of-counts invariant-loop decreases-loop
+same_length c = c.loop-j.invariant.size
 
 returns : tie.Need-returns invariant-loop decreases-loop
 returns c =
-    let a = c.before.before.before.before.args in
-    tally_ends a.s.now a.base a.m a.at (length a.counts.now) c.before.loop.invariant (omega arith)
+    let a = c.args in
+    tally_ends a.s.now a.base a.m a.at (length a.counts.now) c.loop-j.invariant (omega arith)
 
-pub tally-spec : {M : Type 1} → statement M
-tally-spec =
+pub tally_spec : {M : Type 1} → statement M
+tally_spec =
     tie.close
     (tie.spec
     invariant-loop

@@ -13,61 +13,61 @@ use Rattle.store.proofs.Blocks.{all_left_lem, left-whole, part_fails, part_passe
 use Rattle.store.proofs.all_sealed.Statement.{statement}
 use Rattle.store.proofs.all_sealed.Tie as tie
 
-abbrev invariant-loop : tie.invariant-loop
+abbrev invariant-loop : tie.invariant-loop-p
 invariant-loop store n p₀ p = (p ≤ n) × (all_left_lem sealed store n p ≡ all sealed (parts n store))
 
-abbrev decreases-loop : tie.decreases-loop
+abbrev decreases-loop : tie.decreases-loop-p
 decreases-loop store n p₀ p = n - p
 
-loop-holds : tie.Need-loop-init invariant-loop decreases-loop
-loop-holds c = let a = c.before.args in (omega arith, left-whole sealed a.store.now a.n)
+loop-holds : tie.Need-loop-p-init invariant-loop decreases-loop
+loop-holds c = let a = c.args in (omega arith, left-whole sealed a.store.now a.n)
 
-mul-a : tie.Need-overflow-mul-a invariant-loop decreases-loop
+mul-a : tie.Need-overflow_mul-a invariant-loop decreases-loop
 mul-a c = search rules
 
-add-e : tie.Need-overflow-add-e invariant-loop decreases-loop
+add-e : tie.Need-overflow_add-e invariant-loop decreases-loop
 add-e c = search rules
 
-sub-check : tie.Need-overflow-sub-check invariant-loop decreases-loop
+sub-check : tie.Need-slice_bounds-check-count invariant-loop decreases-loop
 sub-check c = search rules
 
-part-check-start : tie.Need-slice-bounds-check-start invariant-loop decreases-loop
+part-check-start : tie.Need-slice_bounds-check-start invariant-loop decreases-loop
 part-check-start c = search rules
 
-part-check-end : tie.Need-slice-bounds-check-end invariant-loop decreases-loop
+part-check-end : tie.Need-slice_bounds-check-end invariant-loop decreases-loop
 part-check-end c = search rules
 
 check-requires : tie.Need-check-requires invariant-loop decreases-loop
 check-requires c κs = search rules
 
-returns : tie.Need-returns invariant-loop decreases-loop
+returns : tie.Need-returns-then-not-check invariant-loop decreases-loop
 unfolding checked
 returns c =
-    let a = c.before.before.before.before.before.before.args in
-    let l = c.before.before.before.before.loop in
-    part_fails sealed a.store.now a.n l.p _ l.invariant.1 (omega arith) _ c.before.check.ensures (not-true _ c.if1.true)
+    let a = c.args in
+    let l = c.loop-p in
+    part_fails sealed a.store.now a.n l.p _ l.invariant.1 (omega arith) _ c.check.ensures (c.if-not-check.true)
 
-add-p : tie.Need-overflow-add-p invariant-loop decreases-loop
+add-p : tie.Need-overflow_add-p invariant-loop decreases-loop
 add-p c = search rules
 
-loop-less : tie.Need-loop-smaller invariant-loop decreases-loop
+loop-less : tie.Need-loop-p-smaller invariant-loop decreases-loop
 loop-less c = search rules
 
-loop-again : tie.Need-loop-preserved invariant-loop decreases-loop
+loop-again : tie.Need-loop-p-preserved invariant-loop decreases-loop
 loop-again c =
-    let a = c.before.before.before.before.before.before.args in
-    let l = c.before.before.before.before.loop in
-    (omega arith, part_passes sealed a.store.now a.n l.p _ l.invariant.1 (omega arith) _ c.before.check.ensures (not-false _ c.if1.false))
+    let a = c.args in
+    let l = c.loop-p in
+    (omega arith, part_passes sealed a.store.now a.n l.p _ l.invariant.1 (omega arith) _ c.check.ensures (c.if-not-check.false))
 
-returns-2 : tie.Need-returns-2 invariant-loop decreases-loop
+returns-2 : tie.Need-returns invariant-loop decreases-loop
 unfolding checked
 returns-2 c =
-    let a = c.before.before.before.args in
-    let l = c.before.loop in
+    let a = c.args in
+    let l = c.loop-p in
     parts-done sealed a.store.now a.n l.p _ l.invariant.1 (omega arith)
 
-pub all-sealed-spec : {M : Type 1} → statement M
-all-sealed-spec =
+pub all_sealed_spec : {M : Type 1} → statement M
+all_sealed_spec =
     tie.close
     (tie.spec
     invariant-loop

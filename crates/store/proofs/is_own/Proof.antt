@@ -6,14 +6,14 @@ use borrow.Author.Tests.{le-leb, lt-leb}
 use Rattle.store.proofs.is_own.Statement.{statement}
 use Rattle.store.proofs.is_own.Tie as tie
 
-returns : tie.Need-returns
-returns c = let a = c.before.before.args in sym (rw (lt-leb a.w.at a.p c.if1.true))
+returns : tie.Need-returns-then-p-w
+returns c = let a = c.args in sym (rw (lt-leb a.w.at a.p c.if-p-w.true))
 
-add-result : tie.Need-overflow-add-result
+add-result : tie.Need-overflow_add-result
 add-result c = search rules
 
-returns-2 : tie.Need-returns-2
-returns-2 c = let a = c.before.before.before.args in sym (rw (le-leb a.w.at a.p c.before.if1.false))
+returns-2 : tie.Need-returns
+returns-2 c = let a = c.args in sym (rw (le-leb a.w.at a.p c.if-p-w.false))
 
-pub is-own-spec : {M : Type 1} → statement M
-is-own-spec = tie.close (tie.spec returns add-result returns-2)
+pub is_own_spec : {M : Type 1} → statement M
+is_own_spec = tie.close (tie.spec returns add-result returns-2)

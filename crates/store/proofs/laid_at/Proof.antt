@@ -13,108 +13,108 @@ use Rattle.store.proofs.Commits.{laid_is}
 use Rattle.store.proofs.laid_at.Statement.{statement}
 use Rattle.store.proofs.laid_at.Tie as tie
 
-shared-slice-read-seat : tie.Need-shared-slice-read-seat
+shared-slice-read-seat : tie.Need-bounds-b-6
 shared-slice-read-seat c = search rules
 
-returns : tie.Need-returns
+returns : tie.Need-returns-then-seat-lt1
 returns c =
-    let a = c.before.before.before.before.before.args in
+    let a = c.args in
     let look = bytes_at (blocks_of a.w.n a.store.now) in
     sym (laid_is look a.w.at a.w.k (rows_of (a.w.last + 1) a.tab.now) (get_or a.b.now 6 0) (two_at a.b.now 2) a.b.now refl
-    ∙ rw (lt-leb 1 _ c.if1.true))
+    ∙ rw (lt-leb 1 _ c.if-seat-lt1.true))
 
-returns-2 : tie.Need-returns-2
+returns-2 : tie.Need-returns-then-seat-gt4
 returns-2 c =
-    let a = c.before.before.before.before.before.before.args in
+    let a = c.args in
     let look = bytes_at (blocks_of a.w.n a.store.now) in
     sym (laid_is look a.w.at a.w.k (rows_of (a.w.last + 1) a.tab.now) (get_or a.b.now 6 0) (two_at a.b.now 2) a.b.now refl
-    ∙ rw (le-leb 1 _ c.before.if1.false, lt-leb _ 4 c.if2.true))
+    ∙ rw (le-leb 1 _ c.if-seat-lt1.false, lt-leb _ 4 c.if-seat-gt4.true))
 
-two-at-requires : tie.Need-two-at-requires
+two-at-requires : tie.Need-two_at-m-requires
 two-at-requires c κs = search rules
 
-cast-m : tie.Need-overflow-cast-m
+cast-m : tie.Need-overflow_cast-m
 cast-m c = search rules
 
-returns-3 : tie.Need-returns-3
+returns-3 : tie.Need-returns-then-m-lt1
 returns-3 c =
-    let a = c.before.before.before.before.before.before.before.before.args in
+    let a = c.args in
     let look = bytes_at (blocks_of a.w.n a.store.now) in
-    sym (laid_is look a.w.at a.w.k (rows_of (a.w.last + 1) a.tab.now) (get_or a.b.now 6 0) c.before.two_at.result a.b.now c.before.two_at.ensures.0
-    ∙ rw (le-leb 1 _ c.before.before.before.if1.false, le-leb _ 4 c.before.before.if2.false, lt-leb 1 _ c.if3.true))
+    sym (laid_is look a.w.at a.w.k (rows_of (a.w.last + 1) a.tab.now) (get_or a.b.now 6 0) c.two_at-m.result a.b.now c.two_at-m.ensures.0
+    ∙ rw (le-leb 1 _ c.if-seat-lt1.false, le-leb _ 4 c.if-seat-gt4.false, lt-leb 1 _ c.if-m-lt1.true))
 
-returns-4 : tie.Need-returns-4
+returns-4 : tie.Need-returns-then-m-gt32
 returns-4 c =
-    let a = c.before.before.before.before.before.before.before.before.before.args in
+    let a = c.args in
     let look = bytes_at (blocks_of a.w.n a.store.now) in
-    sym (laid_is look a.w.at a.w.k (rows_of (a.w.last + 1) a.tab.now) (get_or a.b.now 6 0) c.before.before.two_at.result a.b.now
-    c.before.before.two_at.ensures.0
-    ∙ rw (le-leb 1 _ c.before.before.before.before.if1.false, le-leb _ 4 c.before.before.before.if2.false, le-leb 1 _ c.before.if3.false, lt-leb _ 32 c.if4.true))
+    sym (laid_is look a.w.at a.w.k (rows_of (a.w.last + 1) a.tab.now) (get_or a.b.now 6 0) c.two_at-m.result a.b.now
+    c.two_at-m.ensures.0
+    ∙ rw (le-leb 1 _ c.if-seat-lt1.false, le-leb _ 4 c.if-seat-gt4.false, le-leb 1 _ c.if-m-lt1.false, lt-leb _ 32 c.if-m-gt32.true))
 
 rules-requires : tie.Need-rules-requires
 rules-requires c κs = search rules
 
-returns-5 : tie.Need-returns-5
+returns-5 : tie.Need-returns-then-not-rules
 returns-5 c =
-    let a = c.before.before.before.before.before.before.before.before.before.before.before.args in
+    let a = c.args in
     let look = bytes_at (blocks_of a.w.n a.store.now) in
-    sym (laid_is look a.w.at a.w.k (rows_of (a.w.last + 1) a.tab.now) (get_or a.b.now 6 0) c.before.before.before.before.two_at.result
-    a.b.now c.before.before.before.before.two_at.ensures.0
+    sym (laid_is look a.w.at a.w.k (rows_of (a.w.last + 1) a.tab.now) (get_or a.b.now 6 0) c.two_at-m.result
+    a.b.now c.two_at-m.ensures.0
     ∙ rw (
-      le-leb 1 _ c.before.before.before.before.before.before.if1.false,
-      le-leb _ 4 c.before.before.before.before.before.if2.false,
+      le-leb 1 _ c.if-seat-lt1.false,
+      le-leb _ 4 c.if-seat-gt4.false,
       le-leb 1 _
-          c.before.before.before.if3.false,
-      le-leb _ 32 c.before.before.if4.false,
-      sym c.before.rules.ensures ∙ not-true _ c.if5.true,
+          c.if-m-lt1.false,
+      le-leb _ 32 c.if-m-gt32.false,
+      sym c.rules.ensures ∙ c.if-not-rules.true,
     ))
 
-none-twice-requires : tie.Need-none-twice-requires
+none-twice-requires : tie.Need-none_twice-requires
 none-twice-requires c κs = search rules
 
-returns-6 : tie.Need-returns-6
+returns-6 : tie.Need-returns-then-not-none_twice
 returns-6 c =
-    let a = c.before.before.before.before.before.before.before.before.before.before.before.before.before.args in
+    let a = c.args in
     let look = bytes_at (blocks_of a.w.n a.store.now) in
     sym (laid_is look a.w.at a.w.k (rows_of (a.w.last + 1) a.tab.now) (get_or a.b.now 6 0)
-    c.before.before.before.before.before.before.two_at.result a.b.now c.before.before.before.before.before.before.two_at.ensures.0
+    c.two_at-m.result a.b.now c.two_at-m.ensures.0
     ∙ rw (
-      le-leb 1 _ c.before.before.before.before.before.before.before.before.if1.false,
+      le-leb 1 _ c.if-seat-lt1.false,
       le-leb _ 4
-          c.before.before.before.before.before.before.before.if2.false,
-      le-leb 1 _ c.before.before.before.before.before.if3.false,
+          c.if-seat-gt4.false,
+      le-leb 1 _ c.if-m-lt1.false,
       le-leb _ 32
-          c.before.before.before.before.if4.false,
-      sym c.before.before.before.rules.ensures
-          ∙ not-false _ c.before.before.if5.false,
-      sym c.before.none_twice_holds.ensures ∙ not-true _ c.if6.true,
+          c.if-m-gt32.false,
+      sym c.rules.ensures
+          ∙ c.if-not-rules.false,
+      sym c.before.none_twice_holds.ensures ∙ c.if-not-none_twice.true,
     ))
 
-one-each-requires : tie.Need-one-each-requires
+one-each-requires : tie.Need-one_each-requires
 one-each-requires c κs = search rules
 
-returns-7 : tie.Need-returns-7
+returns-7 : tie.Need-returns
 returns-7 c =
-    let a = c.before.before.before.before.before.before.before.before.before.before.before.before.before.before.args in
+    let a = c.args in
     let look = bytes_at (blocks_of a.w.n a.store.now) in
     c.one_each.ensures ∙ sym (laid_is look a.w.at a.w.k (rows_of (a.w.last + 1) a.tab.now) (get_or a.b.now 6 0)
-    c.before.before.before.before.before.before.before.two_at.result a.b.now
-    c.before.before.before.before.before.before.before.two_at.ensures.0
+    c.two_at-m.result a.b.now
+    c.two_at-m.ensures.0
     ∙ rw (
-      le-leb 1 _ c.before.before.before.before.before.before.before.before.before.if1.false,
+      le-leb 1 _ c.if-seat-lt1.false,
       le-leb _ 4
-          c.before.before.before.before.before.before.before.before.if2.false,
+          c.if-seat-gt4.false,
       le-leb 1 _
-          c.before.before.before.before.before.before.if3.false,
-      le-leb _ 32 c.before.before.before.before.before.if4.false,
+          c.if-m-lt1.false,
+      le-leb _ 32 c.if-m-gt32.false,
       sym
-          c.before.before.before.before.rules.ensures ∙ not-false _ c.before.before.before.if5.false,
+          c.rules.ensures ∙ c.if-not-rules.false,
       sym c.before.before.none_twice_holds.ensures
-          ∙ not-false _ c.before.if6.false,
+          ∙ c.if-not-none_twice.false,
     ))
 
-pub laid-at-spec : {M : Type 1} → statement M
-laid-at-spec =
+pub laid_at_spec : {M : Type 1} → statement M
+laid_at_spec =
     tie.close
     (tie.spec
     shared-slice-read-seat

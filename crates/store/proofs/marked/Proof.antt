@@ -11,34 +11,34 @@ use Rattle.store.proofs.OpenLaws.{open_plain}
 use Rattle.store.proofs.marked.Statement.{statement}
 use Rattle.store.proofs.marked.Tie as tie
 
-enum-known-o : tie.Need-enum-known-o
+enum-known-o : tie.Need-enum_known-o
 enum-known-o c = search rules
 
-enum-known-o-2 : tie.Need-enum-known-o-2
+enum-known-o-2 : tie.Need-enum_known-o-in-Plain-1
 enum-known-o-2 c = search rules
 
-enum-known-o-3 : tie.Need-enum-known-o-3
+enum-known-o-3 : tie.Need-enum_known-o-in-Marked-1
 enum-known-o-3 c = search rules
 
 together-requires : tie.Need-together-requires
-together-requires c κs = let k = c.before.o3.given in c.before.before.before.before.requires.0 k.0.0 (ap opened_as k.1)
+together-requires c κs = let k = c.o-in-Marked-1.given in c.requires.0 k.0.0 (ap opened_as k.1)
 
-returns : tie.Need-returns
+returns : tie.Need-returns-then-not-together
 returns c =
-    let k = c.before.before.before.o3.given in
-    sym (ap (λ o. marked_of c.before.before.before.before.before.before.args.store.now (opened_as o)) k.1 ∙ ap (λ (t : Bool). cond t (Open k.0.0) (Refused StoreLayout)) (sym c.before.together.ensures ∙ not-true _ c.if1.true))
+    let k = c.o-in-Marked-1.given in
+    sym (ap (λ o. marked_of c.args.store.now (opened_as o)) k.1 ∙ ap (λ (t : Bool). cond t (Open k.0.0) (Refused StoreLayout)) (sym c.together.ensures ∙ c.if-not-together.true))
 
-returns-2 : tie.Need-returns-2
-returns-2 c = let k = c.before.o.given in sym (ap (λ o. marked_of c.before.before.before.before.args.store.now (opened_as o)) k.1)
+returns-2 : tie.Need-returns-in-Refused
+returns-2 c = let k = c.o-1.given in sym (ap (λ o. marked_of c.args.store.now (opened_as o)) k.1)
 
-returns-3 : tie.Need-returns-3
-returns-3 c = let s = c.before.before.before.before in open_plain s.args.store.now c.before.o2.given.1 s.requires.0 s.requires.1
+returns-3 : tie.Need-returns-in-Plain
+returns-3 c = let s = c in open_plain s.args.store.now c.in-Plain.is s.requires.0 s.requires.1
 
-returns-4 : tie.Need-returns-4
+returns-4 : tie.Need-returns-else-not-together
 returns-4 c =
-    let k = c.before.before.before.o3.given in
-    sym (ap (λ o. marked_of c.before.before.before.before.before.before.args.store.now (opened_as o)) k.1 ∙ ap (λ (t : Bool). cond t (Open k.0.0) (Refused StoreLayout)) (sym c.before.together.ensures ∙ not-false _ c.if1.false))
+    let k = c.o-in-Marked-1.given in
+    sym (ap (λ o. marked_of c.args.store.now (opened_as o)) k.1 ∙ ap (λ (t : Bool). cond t (Open k.0.0) (Refused StoreLayout)) (sym c.together.ensures ∙ c.if-not-together.false))
 
-pub marked-spec : {M : Type 1} → statement M
-marked-spec =
+pub marked_spec : {M : Type 1} → statement M
+marked_spec =
     tie.close (tie.spec enum-known-o enum-known-o-2 enum-known-o-3 together-requires returns returns-2 returns-3 returns-4)

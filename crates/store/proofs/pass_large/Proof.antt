@@ -6,16 +6,16 @@ use Rattle.store.proofs.OpenLaws.{fresh}
 use Rattle.store.proofs.pass_large.Statement.{statement}
 use Rattle.store.proofs.pass_large.Tie as tie
 
-slice-aggregate-pass : tie.Need-slice-aggregate-pass
+slice-aggregate-pass : tie.Need-slice_bounds-pass-end
 slice-aggregate-pass c = search rules
 
 pass-requires : tie.Need-pass-requires
 pass-requires c κs =
-    let k = c.before.before in
+    let k = c in
     fresh k.args.store.now k.args.n 131072 k.requires.0 k.requires.1 (omega arith) (omega arith)
 
 returns : tie.Need-returns
-returns c = c.before.pass.ensures
+returns c = c.pass.ensures
 
-pub pass-large-spec : {M : Type 1} → statement M
-pass-large-spec = tie.close (tie.spec slice-aggregate-pass pass-requires returns)
+pub pass_large_spec : {M : Type 1} → statement M
+pass_large_spec = tie.close (tie.spec slice-aggregate-pass pass-requires returns)

@@ -11,72 +11,72 @@ use Rattle.store.proofs.Blocks.{bytes_in_lem, bytes_past, lent, part_size, same-
 use Rattle.store.proofs.same_bytes.Statement.{statement}
 use Rattle.store.proofs.same_bytes.Tie as tie
 
-mul-a : tie.Need-overflow-mul-a
+mul-a : tie.Need-overflow_mul-a
 mul-a c = search rules
 
-add-e : tie.Need-overflow-add-e
+add-e : tie.Need-overflow_add-e
 add-e c = search rules
 
-sub-size : tie.Need-overflow-sub-size
+sub-size : tie.Need-slice_bounds-size-count
 sub-size c = search rules
 
-part-size-start : tie.Need-slice-bounds-size-start
+part-size-start : tie.Need-slice_bounds-size-start
 part-size-start c = search rules
 
-part-size-end : tie.Need-slice-bounds-size-end
+part-size-end : tie.Need-slice_bounds-size-end
 part-size-end c = search rules
 
 size-requires : tie.Need-size-requires
-size-requires c κs = let k = c.before.before.before in part_size k.args.store.now k.args.n k.args.p k.requires.0 k.requires.1
+size-requires c κs = let k = c in part_size k.args.store.now k.args.n k.args.p k.requires.0 k.requires.1
 
-returns : tie.Need-returns
+returns : tie.Need-returns-then-n-q
 returns c =
-    let k = c.before.before.before.before in
+    let k = c in
     let a = k.args in
     ap (λ (x : ℕ). eqb x 0) c.size.ensures.0
-    ∙ sym (ap₂ same (bytes_in_lem a.n a.p a.store.now k.requires.1) (bytes_past a.n a.q a.store.now c.before.before.if1.true)
+    ∙ sym (ap₂ same (bytes_in_lem a.n a.p a.store.now k.requires.1) (bytes_past a.n a.q a.store.now c.if-n-q.true)
     ∙ same-nil (held (parse (lent a.store.now a.p))))
 
-mul-f : tie.Need-overflow-mul-f
+mul-f : tie.Need-overflow_mul-f
 mul-f c = search rules
 
-add-g : tie.Need-overflow-add-g
+add-g : tie.Need-overflow_add-g
 add-g c = search rules
 
-sub-same-held : tie.Need-overflow-sub-same-held
+sub-same-held : tie.Need-slice_bounds-same_held-count
 sub-same-held c = search rules
 
-part-same-held-start : tie.Need-slice-bounds-same-held-start
+part-same-held-start : tie.Need-slice_bounds-same_held-start
 part-same-held-start c = search rules
 
-part-same-held-end : tie.Need-slice-bounds-same-held-end
+part-same-held-end : tie.Need-slice_bounds-same_held-end
 part-same-held-end c = search rules
 
-sub-same-held-2 : tie.Need-overflow-sub-same-held-2
+sub-same-held-2 : tie.Need-slice_bounds-same_held-count-2
 sub-same-held-2 c = search rules
 
-part-same-held-start-2 : tie.Need-slice-bounds-same-held-start-2
+part-same-held-start-2 : tie.Need-slice_bounds-same_held-start-2
 part-same-held-start-2 c = search rules
 
-part-same-held-end-2 : tie.Need-slice-bounds-same-held-end-2
+part-same-held-end-2 : tie.Need-slice_bounds-same_held-end-2
 part-same-held-end-2 c = search rules
 
-same-held-requires : tie.Need-same-held-requires
-same-held-requires c κs = let k = c.before.before.before.before in (
+same-held-requires : tie.Need-same_held-requires
+same-held-requires c κs = let k = c in (
   part_size k.args.store.now k.args.n k.args.p k.requires.0 k.requires.1,
   part_size k.args.store.now k.args.n k.args.q k.requires.0
       (omega arith),
 )
 
-returns-2 : tie.Need-returns-2
+returns-2 : tie.Need-returns
 returns-2 c =
-    let k = c.before.before.before.before.before in
+    let k = c in
     let a = k.args in
-    c.same-held.ensures
+    c.same_held.ensures
     ∙ sym (ap₂ same (bytes_in_lem a.n a.p a.store.now k.requires.1) (bytes_in_lem a.n a.q a.store.now (omega arith)))
 
-pub same-bytes-spec : {M : Type 1} → statement M
-same-bytes-spec =
+pub same_bytes_spec : {M : Type 1} → statement M
+same_bytes_spec =
     tie.close
     (tie.spec
     mul-a

@@ -7,24 +7,24 @@ use borrow.Author.Rules.{rules}
 use Rattle.store.proofs.whole.Statement.{statement}
 use Rattle.store.proofs.whole.Tie as tie
 
-returns : tie.Need-returns
-returns c = (sym (rw (le-leb c.before.before.args.f 1 (omega arith))), omega arith, omega arith)
+returns : tie.Need-returns-then-f-eq1
+returns c = (sym (rw (le-leb c.args.f 1 (omega arith))), omega arith, omega arith)
 
-sub-check-at : tie.Need-overflow-sub-check-at
+sub-check-at : tie.Need-overflow_sub-f
 sub-check-at c = search rules
 
-check-at-requires : tie.Need-check-at-requires
+check-at-requires : tie.Need-check_at-requires
 check-at-requires c κs = search rules
 
-returns-2 : tie.Need-returns-2
-returns-2 c = (sym (rw (lt-leb c.before.before.before.before.args.f 1 (omega arith), sym c.before.check-at.ensures ∙ c.if2.true)), omega arith, omega arith)
+returns-2 : tie.Need-returns-then-check_at
+returns-2 c = (sym (rw (lt-leb c.args.f 1 (omega arith), sym c.check_at.ensures ∙ c.if-check_at.true)), omega arith, omega arith)
 
-sub-result : tie.Need-overflow-sub-result
+sub-result : tie.Need-overflow_sub-result
 sub-result c = search rules
 
-returns-3 : tie.Need-returns-3
-returns-3 c = (sym (rw (lt-leb c.before.before.before.before.args.f 1 (omega arith), sym c.before.check-at.ensures ∙ c.if2.false)), omega arith, omega arith)
+returns-3 : tie.Need-returns
+returns-3 c = (sym (rw (lt-leb c.args.f 1 (omega arith), sym c.check_at.ensures ∙ c.if-check_at.false)), omega arith, omega arith)
 
-pub whole-spec : {M : Type 1} → statement M
-whole-spec =
+pub whole_spec : {M : Type 1} → statement M
+whole_spec =
     tie.close (tie.spec returns sub-check-at check-at-requires returns-2 sub-result returns-3)

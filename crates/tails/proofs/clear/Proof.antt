@@ -11,63 +11,63 @@ use Rattle.tails.proofs.Clearing.{blank_at, clear_next}
 use Rattle.tails.proofs.clear.Statement.{statement}
 use Rattle.tails.proofs.clear.Tie as tie
 
-abbrev invariant-loop : tie.invariant-loop
+abbrev invariant-loop : tie.invariant-loop-p
 invariant-loop store₀ used count n p₀ left₀ store p left =
     (used ≤ p) × ((p ≤ used + count) × (p + n ≡ used + count + left)) × (length store ≡ length store₀) × (store ≡ blank_from p store₀)
 
-abbrev decreases-loop : tie.decreases-loop
+abbrev decreases-loop : tie.decreases-loop-p
 decreases-loop store₀ used count n p₀ left₀ store p left = p
 
-add-p : tie.Need-overflow-add-p invariant-loop decreases-loop
+add-p : tie.Need-overflow_add-p invariant-loop decreases-loop
 add-p c = search rules
 
-loop-holds : tie.Need-loop-init invariant-loop decreases-loop
+loop-holds : tie.Need-loop-p-init invariant-loop decreases-loop
 loop-holds c = let k = c.before in (omega arith, (omega arith, omega arith), refl, sym k.requires.rest)
 
-same_length : tie.Need-same-length invariant-loop decreases-loop
+same_length : tie.Need-shape_of-store-then-left-eq0 invariant-loop decreases-loop
 same_length c = search rules
 
-returns : tie.Need-returns invariant-loop decreases-loop
+returns : tie.Need-returns-then-left-eq0 invariant-loop decreases-loop
 returns c =
     let a = c.before.before.before.before.args in
-    let l = c.before.before.loop in
+    let l = c.before.before.loop-p in
     (sym (lt-leb a.count a.n (omega arith)), l.invariant.3 ∙ blank_at a.store.now l.p (a.used + (a.count - a.n)) (omega arith))
 
-sub-p : tie.Need-overflow-sub-p invariant-loop decreases-loop
+sub-p : tie.Need-overflow_sub-p invariant-loop decreases-loop
 sub-p c = search rules
 
-mul-a : tie.Need-overflow-mul-a invariant-loop decreases-loop
+mul-a : tie.Need-overflow_mul-a invariant-loop decreases-loop
 mul-a c = search rules
 
-add-e : tie.Need-overflow-add-e invariant-loop decreases-loop
+add-e : tie.Need-overflow_add-e invariant-loop decreases-loop
 add-e c = search rules
 
 clear-requires : tie.Need-clear-requires invariant-loop decreases-loop
 clear-requires c κs = search rules
 
-sub-left : tie.Need-overflow-sub-left invariant-loop decreases-loop
+sub-left : tie.Need-overflow_sub-left invariant-loop decreases-loop
 sub-left c = search rules
 
-loop-less : tie.Need-loop-smaller invariant-loop decreases-loop
+loop-less : tie.Need-loop-p-smaller invariant-loop decreases-loop
 loop-less c = search rules
 
-loop-again : tie.Need-loop-preserved invariant-loop decreases-loop
+loop-again : tie.Need-loop-p-preserved invariant-loop decreases-loop
 loop-again c =
     let k = c.before.before.before.before.before.before.before.before in
-    let l = c.before.before.before.before.before.before.loop in (
+    let l = c.before.before.before.before.before.before.loop-p in (
       omega arith,
       (omega arith, omega arith),
       search rules,
       c.before.before.clear.ensures ∙ clear_next k.args.store.now l.store l.p (l.p - 1) l.invariant.3 (omega arith) (omega (arith, k.requires.room)),
     )
 
-same-length-2 : tie.Need-same-length-2 invariant-loop decreases-loop
+same-length-2 : tie.Need-shape_of-store invariant-loop decreases-loop
 same-length-2 c = search rules
 
-returns-2 : tie.Need-returns-2 invariant-loop decreases-loop
+returns-2 : tie.Need-returns invariant-loop decreases-loop
 returns-2 c =
     let a = c.before.before.before.args in
-    let l = c.before.loop in
+    let l = c.before.loop-p in
     (sym (le-leb a.count a.n (omega arith)), l.invariant.3 ∙ blank_at a.store.now l.p (a.used + (a.count - a.n)) (omega arith))
 
 pub clear_spec : {M : Type 1} → statement M

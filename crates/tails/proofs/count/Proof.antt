@@ -12,58 +12,58 @@ use Rattle.tails.proofs.Standing.{tail_goes, tail-room, tail-stops}
 use Rattle.tails.proofs.count.Statement.{statement}
 use Rattle.tails.proofs.count.Tie as tie
 
-abbrev invariant-loop : tie.invariant-loop
+abbrev invariant-loop : tie.invariant-loop-t
 invariant-loop store used n t₀ t = (n ≡ length store / 512) × (used + t ≤ n) × (t ≤ tail_of store)
 
-abbrev decreases-loop : tie.decreases-loop
+abbrev decreases-loop : tie.decreases-loop-t
 decreases-loop store used n t₀ t = n - t
 
-loop-holds : tie.Need-loop-init invariant-loop decreases-loop
+loop-holds : tie.Need-loop-t-init invariant-loop decreases-loop
 loop-holds c = let k = c.before in (refl, omega (arith, tail-room k.args.store.now k.args.used k.requires), omega arith)
 
-add-loop : tie.Need-overflow-add-loop invariant-loop decreases-loop
+add-loop : tie.Need-overflow_add-used invariant-loop decreases-loop
 add-loop c = search rules
 
-add_a : tie.Need-overflow-add-a invariant-loop decreases-loop
+add_a : tie.Need-overflow_add-a invariant-loop decreases-loop
 add_a c = search rules
 
-mul-a : tie.Need-overflow-mul-a invariant-loop decreases-loop
+mul-a : tie.Need-overflow_mul-a invariant-loop decreases-loop
 mul-a c = search rules
 
-add-e : tie.Need-overflow-add-e invariant-loop decreases-loop
+add-e : tie.Need-overflow_add-e invariant-loop decreases-loop
 add-e c = search rules
 
-sub-is-zero : tie.Need-overflow-sub-is-zero invariant-loop decreases-loop
+sub-is-zero : tie.Need-slice_bounds-is_zero-count invariant-loop decreases-loop
 sub-is-zero c = search rules
 
-part-is-zero-start : tie.Need-slice-bounds-is-zero-start invariant-loop decreases-loop
+part-is-zero-start : tie.Need-slice_bounds-is_zero-start invariant-loop decreases-loop
 part-is-zero-start c = search rules
 
-part-is-zero-end : tie.Need-slice-bounds-is-zero-end invariant-loop decreases-loop
+part-is-zero-end : tie.Need-slice_bounds-is_zero-end invariant-loop decreases-loop
 part-is-zero-end c = search rules
 
-is-zero-requires : tie.Need-is-zero-requires invariant-loop decreases-loop
+is-zero-requires : tie.Need-is_zero-requires invariant-loop decreases-loop
 is-zero-requires c κs = search rules
 
-returns : tie.Need-returns invariant-loop decreases-loop
-returns c = let k = c.before.before.before.before.before.before in let s = k.args.store.now in let l = c.before.before.before.before.loop in
-    tail-stops s k.args.used k.requires l.t l.invariant.2 (omega arith) (ap is_zero (sym (lent_block s (k.args.used + l.t))) ∙ sym c.before.is_zero.ensures ∙ c.if1.true)
+returns : tie.Need-returns-then-is_zero invariant-loop decreases-loop
+returns c = let k = c.before.before.before.before.before.before in let s = k.args.store.now in let l = c.before.before.before.before.loop-t in
+    tail-stops s k.args.used k.requires l.t l.invariant.2 (omega arith) (ap is_zero (sym (lent_block s (k.args.used + l.t))) ∙ sym c.before.is_zero.ensures ∙ c.if-is_zero.true)
 
-add-t : tie.Need-overflow-add-t invariant-loop decreases-loop
+add-t : tie.Need-overflow_add-t invariant-loop decreases-loop
 add-t c = search rules
 
-loop-less : tie.Need-loop-smaller invariant-loop decreases-loop
+loop-less : tie.Need-loop-t-smaller invariant-loop decreases-loop
 loop-less c = search rules
 
-loop-again : tie.Need-loop-preserved invariant-loop decreases-loop
-loop-again c = let k = c.before.before.before.before.before.before in let s = k.args.store.now in let l = c.before.before.before.before.loop in (
+loop-again : tie.Need-loop-t-preserved invariant-loop decreases-loop
+loop-again c = let k = c.before.before.before.before.before.before in let s = k.args.store.now in let l = c.before.before.before.before.loop-t in (
   l.invariant.0,
   omega arith,
-  tail_goes s k.args.used k.requires l.t l.invariant.2 (omega arith) (ap is_zero (sym (lent_block s (k.args.used + l.t))) ∙ sym c.before.is_zero.ensures ∙ c.if1.false),
+  tail_goes s k.args.used k.requires l.t l.invariant.2 (omega arith) (ap is_zero (sym (lent_block s (k.args.used + l.t))) ∙ sym c.before.is_zero.ensures ∙ c.if-is_zero.false),
 )
 
-returns-2 : tie.Need-returns-2 invariant-loop decreases-loop
-returns-2 c = let k = c.before.before.before in let l = c.before.loop in omega (arith, tail-room k.args.store.now k.args.used k.requires)
+returns-2 : tie.Need-returns invariant-loop decreases-loop
+returns-2 c = let k = c.before.before.before in let l = c.before.loop-t in omega (arith, tail-room k.args.store.now k.args.used k.requires)
 
 pub count_spec : {M : Type 1} → statement M
 count_spec =

@@ -9,33 +9,33 @@ use borrow.Author.Rules.{rules}
 use Rattle.tails.proofs.has.Statement.{statement}
 use Rattle.tails.proofs.has.Tie as tie
 
-returns : tie.Need-returns
+returns : tie.Need-returns-then-store-used
 returns c = let k = c.before.before in tail_none k.args.store.now k.args.used k.requires (omega arith)
 
-mul-a : tie.Need-overflow-mul-a
+mul-a : tie.Need-overflow_mul-a
 mul-a c = search rules
 
-add-e : tie.Need-overflow-add-e
+add-e : tie.Need-overflow_add-e
 add-e c = search rules
 
-sub-is-zero : tie.Need-overflow-sub-is-zero
+sub-is-zero : tie.Need-slice_bounds-is_zero-count
 sub-is-zero c = search rules
 
-part-is-zero-start : tie.Need-slice-bounds-is-zero-start
+part-is-zero-start : tie.Need-slice_bounds-is_zero-start
 part-is-zero-start c = search rules
 
-part-is-zero-end : tie.Need-slice-bounds-is-zero-end
+part-is-zero-end : tie.Need-slice_bounds-is_zero-end
 part-is-zero-end c = search rules
 
-is-zero-requires : tie.Need-is-zero-requires
+is-zero-requires : tie.Need-is_zero-requires
 is-zero-requires c κs = search rules
 
-returns-2 : tie.Need-returns-2
+returns-2 : tie.Need-returns
 returns-2 c = let k = c.before.before.before.before in let s = k.args.store.now in
     tail-some s k.args.used k.requires (omega arith) (c.is_zero.ensures ∙ ap is_zero (lent_block s k.args.used))
 
-pub has-spec : {M : Type 1} → statement M
-has-spec =
+pub has_spec : {M : Type 1} → statement M
+has_spec =
     tie.close
     (tie.spec
     returns

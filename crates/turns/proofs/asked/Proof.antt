@@ -13,24 +13,24 @@ wrong-requires c κs = search rules
 refused-requires : tie.Need-refused-requires
 refused-requires c κs = search rules
 
-returns : tie.Need-returns
+returns : tie.Need-returns-then-wrong
 returns c =
-    let a = c.before.before.before.args in
-    c.refused.ensures ∙ refused_is a.t (Ask a.seat) (sym c.before.before.wrong.ensures ∙ c.before.if1.true)
+    let a = c.args in
+    c.refused.ensures ∙ refused_is a.t (Ask a.seat) (sym c.wrong.ensures ∙ c.if-wrong.true)
 
 joined-requires : tie.Need-joined-requires
-joined-requires c κs = let a = c.before.before.args in formed a.t (Ask a.seat) (sym c.before.wrong.ensures ∙ c.if1.false)
+joined-requires c κs = let a = c.args in formed a.t (Ask a.seat) (sym c.wrong.ensures ∙ c.if-wrong.false)
 
 left-requires : tie.Need-left-requires
 left-requires c κs = search rules
 
-returns-2 : tie.Need-returns-2
+returns-2 : tie.Need-returns
 returns-2 c =
-    let a = c.before.before.before.before.args in
-    let j = c.before.joined in
-    c.left.ensures ∙ left_is a.t (Ask a.seat) (sym c.before.before.before.wrong.ensures ∙ c.before.before.if1.false) j.result j.ensures
+    let a = c.args in
+    let j = c.joined in
+    c.left.ensures ∙ left_is a.t (Ask a.seat) (sym c.wrong.ensures ∙ c.if-wrong.false) j.result j.ensures
 
-pub asked-spec : {M : Type 1} → statement M
-asked-spec =
+pub asked_spec : {M : Type 1} → statement M
+asked_spec =
     tie.close
     (tie.spec wrong-requires refused-requires returns joined-requires left-requires returns-2)

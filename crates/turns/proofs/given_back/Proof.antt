@@ -13,38 +13,38 @@ wrong-requires c κs = search rules
 refused-requires : tie.Need-refused-requires
 refused-requires c κs = search rules
 
-returns : tie.Need-returns
+returns : tie.Need-returns-then-wrong
 returns c =
-    let a = c.before.before.before.args in
-    c.refused.ensures ∙ refused_is a.t (Give a.seat) (sym c.before.before.wrong.ensures ∙ c.before.if1.true)
+    let a = c.args in
+    c.refused.ensures ∙ refused_is a.t (Give a.seat) (sym c.wrong.ensures ∙ c.if-wrong.true)
 
 passed-requires : tie.Need-passed-requires
 passed-requires c κs =
-    let a = c.before.before.before.before.args in
-    formed a.t (Give a.seat) (sym c.before.before.before.wrong.ensures ∙ c.before.before.if1.false)
+    let a = c.args in
+    formed a.t (Give a.seat) (sym c.wrong.ensures ∙ c.if-wrong.false)
 
 left-requires : tie.Need-left-requires
 left-requires c κs = search rules
 
-returns-2 : tie.Need-returns-2
+returns-2 : tie.Need-returns-then-t-seat
 returns-2 c =
-    let a = c.before.before.before.before.before.before.args in
-    let p = c.before.passed in
+    let a = c.args in
+    let p = c.passed in
     c.left.ensures
-    ∙ left_is a.t (Give a.seat) (sym c.before.before.before.before.before.wrong.ensures ∙ c.before.before.before.before.if1.false) p.result
-    (gives-turn a.t a.seat c.before.before.if2.true p.ensures)
+    ∙ left_is a.t (Give a.seat) (sym c.wrong.ensures ∙ c.if-wrong.false) p.result
+    (gives-turn a.t a.seat c.if-t-seat.true p.ensures)
 
 left-requires-2 : tie.Need-left-requires-2
 left-requires-2 c κs = search rules
 
-returns-3 : tie.Need-returns-3
+returns-3 : tie.Need-returns
 returns-3 c =
-    let a = c.before.before.before.before.before.args in
-    let right = sym c.before.before.before.before.wrong.ensures ∙ c.before.before.before.if1.false in
-    c.left2.ensures ∙ left_is a.t (Give a.seat) right a.t (gives_nothing a.t a.seat c.before.if2.false (formed a.t (Give a.seat) right))
+    let a = c.args in
+    let right = sym c.wrong.ensures ∙ c.if-wrong.false in
+    c.left-2.ensures ∙ left_is a.t (Give a.seat) right a.t (gives_nothing a.t a.seat c.if-t-seat.false (formed a.t (Give a.seat) right))
 
-pub given-back-spec : {M : Type 1} → statement M
-given-back-spec =
+pub given_back_spec : {M : Type 1} → statement M
+given_back_spec =
     tie.close
     (tie.spec
     wrong-requires

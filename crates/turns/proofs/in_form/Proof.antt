@@ -7,5 +7,5 @@ use Rattle.turns.proofs.in_form.Tie as tie
 returns : tie.Need-returns
 returns c = let t = c.args.t in form_tests t.holder t.first t.second t.third
 
-pub in-form-spec : {M : Type 1} → statement M
-in-form-spec = tie.close (tie.spec returns)
+pub in_form_spec : {M : Type 1} → statement M
+in_form_spec = tie.close (tie.spec returns)

@@ -7,5 +7,5 @@ use Rattle.turns.proofs.passed.Tie as tie
 returns : tie.Need-returns
 returns c = let t = c.args.t in passed_is t.holder t.first t.second t.third c.requires
 
-pub passed-spec : {M : Type 1} → statement M
-passed-spec = tie.close (tie.spec returns)
+pub passed_spec : {M : Type 1} → statement M
+passed_spec = tie.close (tie.spec returns)

@@ -7,11 +7,11 @@ use Rattle.turns.specs.Turns.{is_seat}
 use Rattle.turns.proofs.wrong.Statement.{statement}
 use Rattle.turns.proofs.wrong.Tie as tie
 
-in-form-requires : tie.Need-in-form-requires
+in-form-requires : tie.Need-in_form-formed-requires
 in-form-requires c κs = search rules
 
 returns : tie.Need-returns
-returns c = ap (λ (b : Bool). not (is_seat c.before.args.seat) || not b) c.in_form_lem.ensures
+returns c = ap (λ (b : Bool). not (is_seat c.args.seat) || not b) c.in_form-formed.ensures
 
-pub wrong-spec : {M : Type 1} → statement M
-wrong-spec = tie.close (tie.spec in-form-requires returns)
+pub wrong_spec : {M : Type 1} → statement M
+wrong_spec = tie.close (tie.spec in-form-requires returns)

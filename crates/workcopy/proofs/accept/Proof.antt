@@ -8,43 +8,43 @@ use Rattle.workcopy.proofs.Accepting.{all_right, wrong-entry, wrong-length, wron
 use Rattle.workcopy.proofs.accept.Statement.{statement}
 use Rattle.workcopy.proofs.accept.Tie as tie
 
-returns : tie.Need-returns
-returns c = wrong-length c.before.before.args.copy.now c.if1.true
+returns : tie.Need-returns-then-copy-ne16896
+returns c = wrong-length c.args.copy.now c.if-copy-ne16896.true
 
-sub-seat-ok : tie.Need-overflow-sub-seat-ok
+sub-seat-ok : tie.Need-slice_bounds-seat_ok-count
 sub-seat-ok c = search rules
 
-part-seat-ok-start : tie.Need-slice-bounds-seat-ok-start
+part-seat-ok-start : tie.Need-slice_bounds-seat_ok-start
 part-seat-ok-start c = search rules
 
-part-seat-ok-end : tie.Need-slice-bounds-seat-ok-end
+part-seat-ok-end : tie.Need-slice_bounds-seat_ok-end
 part-seat-ok-end c = search rules
 
-seat-ok-requires : tie.Need-seat-ok-requires
+seat-ok-requires : tie.Need-seat_ok-requires
 seat-ok-requires c κs = search rules
 
-returns-2 : tie.Need-returns-2
-returns-2 c = wrong-seat c.before.before.before.before.before.args.copy.now c.before.before.before.if1.false (sym c.before.seat-ok.ensures ∙ not-true _ c.if2.true)
+returns-2 : tie.Need-returns-then-not-seat_ok
+returns-2 c = wrong-seat c.args.copy.now c.if-copy-ne16896.false (sym c.seat_ok.ensures ∙ c.if-not-seat_ok.true)
 
-entries-ok-requires : tie.Need-entries-ok-requires
+entries-ok-requires : tie.Need-entries_ok-requires
 entries-ok-requires c κs = search rules
 
-returns-3 : tie.Need-returns-3
+returns-3 : tie.Need-returns-then-not-entries_ok
 returns-3 c =
-    wrong-entry c.before.before.before.before.before.before.before.args.copy.now c.before.before.before.before.before.if1.false (sym c.before.before.before.seat-ok.ensures ∙ not-false _ c.before.before.if2.false) (sym c.before.entries-ok.ensures ∙ not-true _ c.if3.true)
+    wrong-entry c.args.copy.now c.if-copy-ne16896.false (sym c.seat_ok.ensures ∙ c.if-not-seat_ok.false) (sym c.entries_ok.ensures ∙ c.if-not-entries_ok.true)
 
-shared-slice-read-t12 : tie.Need-shared-slice-read-t12
+shared-slice-read-t12 : tie.Need-bounds-copy-1
 shared-slice-read-t12 c = search rules
 
-cast-t13 : tie.Need-overflow-cast-t13
-cast-t13 c = omega (arith, c.shared-slice-known2.given 1)
+cast-t13 : tie.Need-overflow_cast-result
+cast-t13 c = omega (arith, c.shared_slice_known-2-1.given 1)
 
-returns-4 : tie.Need-returns-4
+returns-4 : tie.Need-returns
 returns-4 c =
-    all_right c.before.before.before.before.before.before.before.before.args.copy.now c.before.before.before.before.before.before.if1.false (sym c.before.before.before.before.seat-ok.ensures ∙ not-false _ c.before.before.before.if2.false) (sym c.before.before.entries-ok.ensures ∙ not-false _ c.before.if3.false) refl
+    all_right c.args.copy.now c.if-copy-ne16896.false (sym c.seat_ok.ensures ∙ c.if-not-seat_ok.false) (sym c.entries_ok.ensures ∙ c.if-not-entries_ok.false) refl
 
-pub accept-spec : {M : Type 1} → statement M
-accept-spec =
+pub accept_spec : {M : Type 1} → statement M
+accept_spec =
     tie.close
     (tie.spec
     returns

@@ -5,28 +5,28 @@ use Rattle.workcopy.proofs.Creating.{create_done, create_high, create_length, cr
 use Rattle.workcopy.proofs.create_copy.Statement.{statement}
 use Rattle.workcopy.proofs.create_copy.Tie as tie
 
-returns : tie.Need-returns
-returns c = create_length c.before.before.args.copy.now c.before.before.args.seat c.if1.true
+returns : tie.Need-returns-then-copy-ne16896
+returns c = create_length c.args.copy.now c.args.seat c.if-copy-ne16896.true
 
-returns-2 : tie.Need-returns-2
-returns-2 c = create_low c.before.before.before.args.copy.now c.before.before.before.args.seat c.before.if1.false c.if2.true
+returns-2 : tie.Need-returns-then-seat-lt1
+returns-2 c = create_low c.args.copy.now c.args.seat c.if-copy-ne16896.false c.if-seat-lt1.true
 
-returns-3 : tie.Need-returns-3
-returns-3 c = create_high c.before.before.before.before.args.copy.now c.before.before.before.before.args.seat c.before.before.if1.false c.before.if2.false c.if3.true
+returns-3 : tie.Need-returns-then-seat-gt4
+returns-3 c = create_high c.args.copy.now c.args.seat c.if-copy-ne16896.false c.if-seat-lt1.false c.if-seat-gt4.true
 
-cast-fresh : tie.Need-overflow-cast-fresh
+cast-fresh : tie.Need-overflow_cast-seat
 cast-fresh c = search rules
 
 fresh-requires : tie.Need-fresh-requires
 fresh-requires c κs = search rules
 
-same_length : tie.Need-same-length
+same_length : tie.Need-shape_of-copy
 same_length c = search rules
 
-returns-4 : tie.Need-returns-4
-returns-4 c = create_done c.before.before.before.before.before.before.before.before.args.copy.now c.before.before.before.before.before.before.before.before.args.seat c.before.before.before.before.before.before.if1.false c.before.before.before.before.before.if2.false c.before.before.before.before.if3.false c.before.before.fresh.ensures
+returns-4 : tie.Need-returns
+returns-4 c = create_done c.args.copy.now c.args.seat c.if-copy-ne16896.false c.if-seat-lt1.false c.if-seat-gt4.false c.fresh.ensures
 
-pub create-copy-spec : {M : Type 1} → statement M
-create-copy-spec =
+pub create_copy_spec : {M : Type 1} → statement M
+create_copy_spec =
     tie.close
     (tie.spec returns returns-2 returns-3 cast-fresh fresh-requires same_length returns-4)

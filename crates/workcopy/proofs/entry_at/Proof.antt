@@ -10,35 +10,35 @@ use Rattle.workcopy.proofs.entry_at.Statement.{statement}
 use Rattle.workcopy.specs.Copy.{read_entry}
 use Rattle.workcopy.proofs.entry_at.Tie as tie
 
-add_at : tie.Need-overflow-add-at
+add_at : tie.Need-overflow_add-at
 add_at c = search rules
 
-mul_at : tie.Need-overflow-mul-at
+mul_at : tie.Need-overflow_mul-at
 mul_at c = search rules
 
-add-end : tie.Need-overflow-add-end
+add-end : tie.Need-overflow_add-end
 add-end c = search rules
 
-sub-read-entry : tie.Need-overflow-sub-read-entry
+sub-read-entry : tie.Need-slice_bounds-read_entry-count
 sub-read-entry c = search rules
 
-part-read-entry-start : tie.Need-slice-bounds-read-entry-start
+part-read-entry-start : tie.Need-slice_bounds-read_entry-start
 part-read-entry-start c = search rules
 
-part-read-entry-end : tie.Need-slice-bounds-read-entry-end
+part-read-entry-end : tie.Need-slice_bounds-read_entry-end
 part-read-entry-end c = search rules
 
-read-entry-requires : tie.Need-read-entry-requires
+read-entry-requires : tie.Need-read_entry-requires
 read-entry-requires c κs = search rules
 
 returns : tie.Need-returns
 returns c =
-    let a = c.before.before.before in
+    let a = c in
     let at = 512 * (a.args.i + 1) in
-    reading a.args.copy.now a.args.i a.requires.0 a.requires.1 (c.read-entry.ensures ∙ lent read_entry a.args.copy.now at (at + 512 - at) (omega arith))
+    reading a.args.copy.now a.args.i a.requires.0 a.requires.1 (c.read_entry.ensures ∙ lent read_entry a.args.copy.now at (at + 512 - at) (omega arith))
 
-pub entry-at-spec : {M : Type 1} → statement M
-entry-at-spec =
+pub entry_at_spec : {M : Type 1} → statement M
+entry_at_spec =
     tie.close
     (tie.spec
     add_at

@@ -10,23 +10,23 @@ use Rattle.workcopy.proofs.entry_ok.Tie as tie
 check-requires : tie.Need-check-requires
 check-requires c κs = search rules
 
-returns : tie.Need-returns
-returns c = sym (ok_unsealed 5 c.before.before.before.args.s.now (sym c.before.check.ensures ∙ not-true _ c.if1.true))
+returns : tie.Need-returns-then-not-check
+returns c = sym (ok_unsealed 5 c.args.s.now (sym c.check.ensures ∙ c.if-not-check.true))
 
-shared-slice-read-if2 : tie.Need-shared-slice-read-if2
+shared-slice-read-if2 : tie.Need-bounds-s-0
 shared-slice-read-if2 c = search rules
 
-returns-2 : tie.Need-returns-2
-returns-2 c = sym (ok-other 5 c.before.before.before.before.before.args.s.now (sym c.before.before.before.check.ensures ∙ not-false _ c.before.before.if1.false) c.if2.true)
+returns-2 : tie.Need-returns-then-s-ne5
+returns-2 c = sym (ok-other 5 c.args.s.now (sym c.check.ensures ∙ c.if-not-check.false) c.if-s-ne5.true)
 
-entry-shape-requires : tie.Need-entry-shape-requires
+entry-shape-requires : tie.Need-entry_shape-requires
 entry-shape-requires c κs = search rules
 
-returns-3 : tie.Need-returns-3
-returns-3 c = c.entry-shape.ensures ∙ sym (ok-shaped 5 c.before.before.before.before.before.before.args.s.now (sym c.before.before.before.before.check.ensures ∙ not-false _ c.before.before.before.if1.false) c.before.if2.false)
+returns-3 : tie.Need-returns
+returns-3 c = c.entry_shape.ensures ∙ sym (ok-shaped 5 c.args.s.now (sym c.check.ensures ∙ c.if-not-check.false) c.if-s-ne5.false)
 
-pub entry-ok-spec : {M : Type 1} → statement M
-entry-ok-spec =
+pub entry_ok_spec : {M : Type 1} → statement M
+entry_ok_spec =
     tie.close
     (tie.spec
     check-requires

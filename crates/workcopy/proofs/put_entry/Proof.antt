@@ -7,41 +7,41 @@ use Rattle.workcopy.proofs.Blocks.{lent_length, put_back}
 use Rattle.workcopy.proofs.put_entry.Statement.{statement}
 use Rattle.workcopy.proofs.put_entry.Tie as tie
 
-add_at : tie.Need-overflow-add-at
+add_at : tie.Need-overflow_add-at
 add_at c = search rules
 
-mul_at : tie.Need-overflow-mul-at
+mul_at : tie.Need-overflow_mul-at
 mul_at c = search rules
 
-add-end : tie.Need-overflow-add-end
+add-end : tie.Need-overflow_add-end
 add-end c = search rules
 
-sub-put-block : tie.Need-overflow-sub-put-block
+sub-put-block : tie.Need-slice_bounds-put_block-count
 sub-put-block c = search rules
 
-part-put-block-start : tie.Need-slice-bounds-put-block-start
+part-put-block-start : tie.Need-slice_bounds-put_block-start
 part-put-block-start c = search rules
 
-part-put-block-end : tie.Need-slice-bounds-put-block-end
+part-put-block-end : tie.Need-slice_bounds-put_block-end
 part-put-block-end c = search rules
 
-put-block-requires : tie.Need-put-block-requires
+put-block-requires : tie.Need-put_block-requires
 put-block-requires c κs =
-    let a = c.before.before.before in
+    let a = c in
     let at = 512 * (a.args.i + 1) in
     (lent_length a.args.copy.now at (at + 512 - at) (omega arith) (omega (arith, a.requires.inside, a.requires.copy.size)), a.requires.fit)
 
-same_length : tie.Need-same-length
+same_length : tie.Need-shape_of-copy
 same_length c = search rules
 
 returns : tie.Need-returns
 returns c =
-    let a = c.before.before.before.before.before.before in
+    let a = c in
     let at = 512 * (a.args.i + 1) in
-    put_back a.args.copy.now a.args.i (at + 512 - at) a.args.e a.args.bytes.now a.requires (omega arith) c.before.before.put-block.ensures
+    put_back a.args.copy.now a.args.i (at + 512 - at) a.args.e a.args.bytes.now a.requires (omega arith) c.put_block.ensures
 
-pub put-entry-spec : {M : Type 1} → statement M
-put-entry-spec =
+pub put_entry_spec : {M : Type 1} → statement M
+put_entry_spec =
     tie.close
     (tie.spec
     add_at

@@ -10,22 +10,22 @@ use Rattle.workcopy.proofs.seat_ok.Tie as tie
 check-requires : tie.Need-check-requires
 check-requires c κs = search rules
 
-returns : tie.Need-returns
-returns c = sym (ok_unsealed 4 c.before.before.before.args.s.now (sym c.before.check.ensures ∙ not-true _ c.if1.true))
+returns : tie.Need-returns-then-not-check
+returns c = sym (ok_unsealed 4 c.args.s.now (sym c.check.ensures ∙ c.if-not-check.true))
 
-shared-slice-read-if2 : tie.Need-shared-slice-read-if2
+shared-slice-read-if2 : tie.Need-bounds-s-0
 shared-slice-read-if2 c = search rules
 
-returns-2 : tie.Need-returns-2
-returns-2 c = sym (ok-other 4 c.before.before.before.before.before.args.s.now (sym c.before.before.before.check.ensures ∙ not-false _ c.before.before.if1.false) c.if2.true)
+returns-2 : tie.Need-returns-then-s-ne4
+returns-2 c = sym (ok-other 4 c.args.s.now (sym c.check.ensures ∙ c.if-not-check.false) c.if-s-ne4.true)
 
-seat-shape-requires : tie.Need-seat-shape-requires
+seat-shape-requires : tie.Need-seat_shape-requires
 seat-shape-requires c κs = search rules
 
-returns-3 : tie.Need-returns-3
-returns-3 c = c.seat-shape.ensures ∙ sym (ok-shaped 4 c.before.before.before.before.before.before.args.s.now (sym c.before.before.before.before.check.ensures ∙ not-false _ c.before.before.before.if1.false) c.before.if2.false)
+returns-3 : tie.Need-returns
+returns-3 c = c.seat_shape.ensures ∙ sym (ok-shaped 4 c.args.s.now (sym c.check.ensures ∙ c.if-not-check.false) c.if-s-ne4.false)
 
-pub seat-ok-spec : {M : Type 1} → statement M
-seat-ok-spec =
+pub seat_ok_spec : {M : Type 1} → statement M
+seat_ok_spec =
     tie.close
     (tie.spec check-requires returns shared-slice-read-if2 returns-2 seat-shape-requires returns-3)

@@ -8,38 +8,38 @@ use Rattle.workcopy.proofs.Scan.{seat-high, seat-last, seat-low}
 use Rattle.workcopy.proofs.seat_shape.Statement.{statement}
 use Rattle.workcopy.proofs.seat_shape.Tie as tie
 
-bytes : (c : tie.After-shared-slice-known) (i : ℕ) → get_or c.before.args.s.now i 0 < 256
-bytes c i = omega (arith, c.shared-slice-known.given i)
+bytes : (c : tie.After-shared_slice_known-1) (i : ℕ) → get_or c.args.s.now i 0 < 256
+bytes c i = omega (arith, c.shared_slice_known-1.given i)
 
-shared-slice-read-if1 : tie.Need-shared-slice-read-if1
+shared-slice-read-if1 : tie.Need-bounds-s-1
 shared-slice-read-if1 c = search rules
 
-returns : tie.Need-returns
-returns c = seat-low c.before.before.before.args.s.now c.before.before.before.requires.0 (bytes c.before.before) c.before.before.before.requires.1 c.if1.true
+returns : tie.Need-returns-then-s-lt1
+returns c = seat-low c.args.s.now c.requires.0 (bytes c.before.before) c.requires.1 c.if-s-lt1.true
 
-shared-slice-read-if2 : tie.Need-shared-slice-read-if2
+shared-slice-read-if2 : tie.Need-bounds-s-1-2
 shared-slice-read-if2 c = search rules
 
-returns-2 : tie.Need-returns-2
-returns-2 c = seat-high c.before.before.before.before.before.args.s.now c.before.before.before.before.before.requires.0 (bytes c.before.before.before.before) c.before.before.before.before.before.requires.1 c.if2.true
+returns-2 : tie.Need-returns-then-s-gt4
+returns-2 c = seat-high c.args.s.now c.requires.0 (bytes c.before.before.before.before) c.requires.1 c.if-s-gt4.true
 
-sub-is-zero : tie.Need-overflow-sub-is-zero
+sub-is-zero : tie.Need-slice_bounds-is_zero-count
 sub-is-zero c = search rules
 
-part-is-zero-start : tie.Need-slice-bounds-is-zero-start
+part-is-zero-start : tie.Need-slice_bounds-is_zero-start
 part-is-zero-start c = search rules
 
-part-is-zero-end : tie.Need-slice-bounds-is-zero-end
+part-is-zero-end : tie.Need-slice_bounds-is_zero-end
 part-is-zero-end c = search rules
 
-is-zero-requires : tie.Need-is-zero-requires
+is-zero-requires : tie.Need-is_zero-requires
 is-zero-requires c κs = search rules
 
-returns-3 : tie.Need-returns-3
-returns-3 c = seat-last c.before.before.before.before.before.before.before.args.s.now c.before.before.before.before.before.before.before.requires.0 (bytes c.before.before.before.before.before.before) c.before.before.before.before.before.before.before.requires.1 c.before.before.before.before.if1.false c.before.before.if2.false c.is_zero.ensures
+returns-3 : tie.Need-returns
+returns-3 c = seat-last c.args.s.now c.requires.0 (bytes c.before.before.before.before.before.before) c.requires.1 c.if-s-lt1.false c.if-s-gt4.false c.is_zero.ensures
 
-pub seat-shape-spec : {M : Type 1} → statement M
-seat-shape-spec =
+pub seat_shape_spec : {M : Type 1} → statement M
+seat_shape_spec =
     tie.close
     (tie.spec
     shared-slice-read-if1

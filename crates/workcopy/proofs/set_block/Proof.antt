@@ -7,16 +7,16 @@ use Rattle.workcopy.proofs.set_block.Statement.{statement}
 use Rattle.workcopy.specs.Copy.{bytes_in}
 use Rattle.workcopy.proofs.set_block.Tie as tie
 
-head-of-requires : tie.Need-head-of-requires
-head-of-requires c κs = let a = c.before in fit_small a.args.e (bytes_in a.args.e a.args.s.now) a.requires.1
+head-of-requires : tie.Need-head_of-head-requires
+head-of-requires c κs = let a = c in fit_small a.args.e (bytes_in a.args.e a.args.s.now) a.requires.1
 
-add-end : tie.Need-overflow-add-end
-add-end c = let a = c.before.before.before in omega (arith, fit-short a.args.e (bytes_in a.args.e a.args.s.now) a.requires.1)
+add-end : tie.Need-overflow_add-end
+add-end c = let a = c in omega (arith, fit-short a.args.e (bytes_in a.args.e a.args.s.now) a.requires.1)
 
-slice-aggregate-put-bytes : tie.Need-slice-aggregate-put-bytes
+slice-aggregate-put-bytes : tie.Need-slice_bounds-put_bytes-end
 slice-aggregate-put-bytes c = search rules
 
-put-bytes-requires : tie.Need-put-bytes-requires
+put-bytes-requires : tie.Need-put_bytes-requires
 put-bytes-requires c κs = search rules
 
 clear-requires : tie.Need-clear-requires
@@ -25,16 +25,16 @@ clear-requires c κs = search rules
 seal-requires : tie.Need-seal-requires
 seal-requires c κs = search rules
 
-same_length : tie.Need-same-length
+same_length : tie.Need-shape_of-s
 same_length c = search rules
 
 returns : tie.Need-returns
 returns c =
-    let a = c.before.before.before.before.before.before.before.before.before.before.before.before.before.before.before.before in
-    set_is a.args.e a.args.s.now c.before.before.before.before.before.before.before.before.before.before.before.before.before.before.head_of.result a.requires.0 a.requires.1 c.before.before.before.before.before.before.before.before.before.before.before.before.before.before.head_of.ensures c.before.before.before.before.before.before.before.before.before.before.put-bytes.ensures c.before.before.before.before.before.before.clear.ensures c.before.before.seal.ensures
+    let a = c in
+    set_is a.args.e a.args.s.now c.head_of-head.result a.requires.0 a.requires.1 c.head_of-head.ensures c.put_bytes.ensures c.clear.ensures c.seal.ensures
 
-pub set-block-spec : {M : Type 1} → statement M
-set-block-spec =
+pub set_block_spec : {M : Type 1} → statement M
+set_block_spec =
     tie.close
     (tie.spec
     head-of-requires

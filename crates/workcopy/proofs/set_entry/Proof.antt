@@ -14,45 +14,45 @@ use Rattle.workcopy.proofs.set_entry.Statement.{statement}
 use Rattle.workcopy.specs.Copy.{Fit, bytes_in}
 use Rattle.workcopy.proofs.set_entry.Tie as tie
 
-add_at : tie.Need-overflow-add-at
+add_at : tie.Need-overflow_add-at
 add_at c = search rules
 
-mul_at : tie.Need-overflow-mul-at
+mul_at : tie.Need-overflow_mul-at
 mul_at c = search rules
 
-add-end : tie.Need-overflow-add-end
+add-end : tie.Need-overflow_add-end
 add-end c = search rules
 
-sub-set-block : tie.Need-overflow-sub-set-block
+sub-set-block : tie.Need-slice_bounds-set_block-count
 sub-set-block c = search rules
 
-part-set-block-start : tie.Need-slice-bounds-set-block-start
+part-set-block-start : tie.Need-slice_bounds-set_block-start
 part-set-block-start c = search rules
 
-part-set-block-end : tie.Need-slice-bounds-set-block-end
+part-set-block-end : tie.Need-slice_bounds-set_block-end
 part-set-block-end c = search rules
 
-set-block-requires : tie.Need-set-block-requires
+set-block-requires : tie.Need-set_block-requires
 set-block-requires c κs =
-    let a = c.before.before in
+    let a = c in
     let l = a.args.copy.now in
     let at = 512 * (a.args.i + 1) in
     (lent_length l at (at + 512 - at) (omega arith) (omega (arith, a.requires.inside, a.requires.copy.size)), subst (Fit a.args.e) (sym (lent (bytes_in a.args.e) l at (at + 512 - at) (omega arith))) a.requires.fit)
 
-same_length : tie.Need-same-length
+same_length : tie.Need-shape_of-copy
 same_length c = search rules
 
 returns : tie.Need-returns
 returns c =
-    let a = c.before.before.before.before.before in
+    let a = c in
     let e = a.args.e in
     let l = a.args.copy.now in
     let at = 512 * (a.args.i + 1) in
     put_back l a.args.i (at + 512 - at) e (bytes_in e (block_at l (a.args.i + 1))) a.requires (omega arith)
-    (c.before.before.set-block.ensures ∙ lent (λ (p : List ℕ). encode copy_fields (entry_block (entry_of e (bytes_in e p)))) l at (at + 512 - at) (omega arith))
+    (c.set_block.ensures ∙ lent (λ (p : List ℕ). encode copy_fields (entry_block (entry_of e (bytes_in e p)))) l at (at + 512 - at) (omega arith))
 
-pub set-entry-spec : {M : Type 1} → statement M
-set-entry-spec =
+pub set_entry_spec : {M : Type 1} → statement M
+set_entry_spec =
     tie.close
     (tie.spec
     add_at

@@ -13,14 +13,14 @@ returns c =
     let c₃ = c₄.before.before.before.before in
     let c₂ = c₃.before.before.before.before in
     let c₁ = c₂.before.before.before.before in
-    let s = c₁.before.before.before in
+    let s = c₁ in
     let a = s.args in
     commit-filled a.revision a.seat a.stamp a.m (lines_from a.lines 0 a.m) a.d.now
-    c₁.put-head.new.0 c₂.put-lines.new.0 c₃.clear.new.0 c₄.seal.new.0
-    s.requires.0 (length_from a.lines 0 a.m) s.requires.1.1.few c₁.put-head.ensures c₂.put-lines.ensures c₃.clear.ensures c₄.seal.ensures
+    c₁.put_head.new.d c₂.put_lines.new.d c₃.clear.new.s c₄.seal.new.s
+    s.requires.0 (length_from a.lines 0 a.m) s.requires.1.1.few c₁.put_head.ensures c₂.put_lines.ensures c₃.clear.ensures c₄.seal.ensures
 
-pub fill-commit-spec : {M : Type 1} → statement M
-fill-commit-spec =
+pub fill_commit_spec : {M : Type 1} → statement M
+fill_commit_spec =
     tie.close
     (tie.spec
     (λ c κs. search rules)

@@ -11,12 +11,12 @@ returns c =
     let c₃ = c₄.before.before.before.before in
     let c₂ = c₃.before.before.before.before in
     let c₁ = c₂.before.before.before.before in
-    let s = c₁.before.before.before.before in
-    content-filled s.args.revision s.args.bytes.now s.args.d.now c₁.put-head.new.0 c₂.put-bytes.new.0 c₃.clear.new.0 c₄.seal.new.0
-    s.requires.0 s.requires.1.1 c₁.put-head.ensures c₂.put-bytes.ensures c₃.clear.ensures c₄.seal.ensures
+    let s = c₁ in
+    content-filled s.args.revision s.args.bytes.now s.args.d.now c₁.put_head.new.d c₂.put_bytes.new.s c₃.clear.new.s c₄.seal.new.s
+    s.requires.0 s.requires.1.1 c₁.put_head.ensures c₂.put_bytes.ensures c₃.clear.ensures c₄.seal.ensures
 
-pub fill-content-spec : {M : Type 1} → statement M
-fill-content-spec =
+pub fill_content_spec : {M : Type 1} → statement M
+fill_content_spec =
     tie.close
     (tie.spec
     (λ c κs. search rules)

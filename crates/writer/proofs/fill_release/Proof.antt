@@ -10,13 +10,13 @@ returns c =
     let c₃ = c.before.before in
     let c₂ = c₃.before.before.before.before in
     let c₁ = c₂.before.before.before.before in
-    let s = c₁.before.before.before in
+    let s = c₁ in
     let a = s.args in
-    release_filled a.revision a.seat a.stamp a.d.now c₁.put-head.new.0 c₂.clear.new.0 c₃.seal.new.0
-    s.requires.0 c₁.put-head.ensures c₂.clear.ensures c₃.seal.ensures
+    release_filled a.revision a.seat a.stamp a.d.now c₁.put_head.new.d c₂.clear.new.s c₃.seal.new.s
+    s.requires.0 c₁.put_head.ensures c₂.clear.ensures c₃.seal.ensures
 
-pub fill-release-spec : {M : Type 1} → statement M
-fill-release-spec =
+pub fill_release_spec : {M : Type 1} → statement M
+fill_release_spec =
     tie.close
     (tie.spec
     (λ c κs. search rules)

@@ -9,13 +9,13 @@ use Rattle.writer.proofs.put_commit_block.Tie as tie
 
 returns : tie.Need-returns
 returns c =
-    let s = c.before.before.before.before.before in
+    let s = c in
     let a = s.args in
-    let w = c.before.before.fill-commit in
-    block_lent a.store.now w.new.0 a.block (commit a.revision a.seat a.stamp (lines_from a.lines 0 a.m)) w.ensures s.requires.0
+    let w = c.fill_commit in
+    block_lent a.store.now w.new.d a.block (commit a.revision a.seat a.stamp (lines_from a.lines 0 a.m)) w.ensures s.requires.0
 
-pub put-commit-block-spec : {M : Type 1} → statement M
-put-commit-block-spec =
+pub put_commit_block_spec : {M : Type 1} → statement M
+put_commit_block_spec =
     tie.close
     (tie.spec
     (λ c. search rules)

@@ -8,14 +8,14 @@ use Rattle.writer.proofs.put_content.Tie as tie
 
 returns : tie.Need-returns
 returns c =
-    let s = c.before.before.before.before.before.before in
+    let s = c in
     let a = s.args in
-    let w = c.before.before.fill-content in
-    block_lent a.store.now w.new.0 a.block
+    let w = c.fill_content in
+    block_lent a.store.now w.new.d a.block
     (content a.revision a.bytes.now) w.ensures s.requires.0
 
-pub put-content-spec : {M : Type 1} → statement M
-put-content-spec =
+pub put_content_spec : {M : Type 1} → statement M
+put_content_spec =
     tie.close
     (tie.spec
     (λ c. search rules)

@@ -14,35 +14,35 @@ use Rattle.writer.proofs.put_entry.Statement.{statement}
 use Rattle.writer.specs.Blocks.{size_in}
 use Rattle.writer.proofs.put_entry.Tie as tie
 
-add-end : tie.Need-overflow-add-end
+add-end : tie.Need-overflow_add-end
 unfolding size_in
-add-end c = omega (arith, c.get16.ensures)
+add-end c = omega (arith, c.get16-n.ensures)
 
-part-put-content-end : tie.Need-slice-bounds-put-content-end
+part-put-content-end : tie.Need-slice_bounds-put_content-end
 unfolding size_in
-part-put-content-end c = omega (arith, c.before.get16.ensures)
+part-put-content-end c = omega (arith, c.get16-n.ensures)
 
-put-content-requires : tie.Need-put-content-requires
+put-content-requires : tie.Need-put_content-requires
 unfolding size_in
 put-content-requires c κs =
-    let t = c.before.before.get16 in
-    let a = c.before.before.before.before.before.args in
+    let t = c.get16-n in
+    let a = c.args in
     let at = 512 * (a.sheet + 1) in
     (omega arith, (omega arith, omega (arith, length-take (at + 16 + t.result - (at + 16)) (drop (at + 16) a.copy.now), t.ensures)))
 
 returns : tie.Need-returns
 unfolding size_in
 returns c =
-    let p = c.before.before in
-    let t = p.before.before.before.get16 in
-    let a = p.before.before.before.before.before.before.args in
+    let p = c in
+    let t = p.get16-n in
+    let a = p.args in
     let at = 512 * (a.sheet + 1) in
-    p.put-content.ensures
+    p.put_content.ensures
     ∙ ap (λ (b : List ℕ). written (512 * a.block) (encode fields_of (content a.revision b)) a.store.now)
     (part_sheet a.copy.now a.sheet t.result (at + 16 + t.result - (at + 16)) t.ensures (omega arith))
 
-pub put-entry-spec : {M : Type 1} → statement M
-put-entry-spec =
+pub put_entry_spec : {M : Type 1} → statement M
+put_entry_spec =
     tie.close
     (tie.spec
     (λ c. search rules)

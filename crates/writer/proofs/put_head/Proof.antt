@@ -13,8 +13,8 @@ returns : tie.Need-returns
 unfolding written head_of
 returns c = refl
 
-pub put-head-spec : {M : Type 1} → statement M
-put-head-spec =
+pub put_head_spec : {M : Type 1} → statement M
+put_head_spec =
     tie.close
     (tie.spec
     (λ c. search rules)

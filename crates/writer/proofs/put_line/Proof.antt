@@ -10,12 +10,12 @@ use Rattle.writer.proofs.put_line.Tie as tie
 
 returns : tie.Need-returns
 returns c =
-    let a = c.before.before.before.before.args in
+    let a = c.args in
     line_stores a.d.now a.at (a.at + 1) (a.at + 2) (a.at + 3) (a.at + 4) (a.at + 5) (a.at + 6) (a.at + 7) a.l
     (omega arith) (omega arith) (omega arith) (omega arith) (omega arith) (omega arith) (omega arith)
 
-pub put-line-spec : {M : Type 1} → statement M
-put-line-spec =
+pub put_line_spec : {M : Type 1} → statement M
+put_line_spec =
     tie.close
     (tie.spec
     (λ c. search rules)

@@ -9,13 +9,13 @@ use Rattle.writer.proofs.put_release.Tie as tie
 
 returns : tie.Need-returns
 returns c =
-    let s = c.before.before.before.before.before in
+    let s = c in
     let a = s.args in
-    let w = c.before.before.fill-release in
-    block_lent a.store.now w.new.0 a.block (mark (released a.revision a.seat a.stamp)) w.ensures s.requires.0
+    let w = c.fill_release in
+    block_lent a.store.now w.new.d a.block (mark (released a.revision a.seat a.stamp)) w.ensures s.requires.0
 
-pub put-release-spec : {M : Type 1} → statement M
-put-release-spec =
+pub put_release_spec : {M : Type 1} → statement M
+put_release_spec =
     tie.close
     (tie.spec
     (λ c. search rules)

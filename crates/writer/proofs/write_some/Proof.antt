@@ -14,44 +14,44 @@ use Rattle.writer.proofs.write_some.Tie as tie
 contents : tie.Start → List (List ℕ)
 contents s = contents_by (sheet_in s.args.copy.now) s.args.used (lines_from s.args.lines 0 s.args.m)
 
-put-contents-requires : tie.Need-put-contents-requires
+put-contents-requires : tie.Need-put_contents-cut-requires
 put-contents-requires c κs =
-    let s = c.before.before.before in
+    let s = c in
     (s.requires.small, (s.requires.sourced, omega (arith, s.requires.room)))
 
-returns : tie.Need-returns
+returns : tie.Need-returns-then-left-eq0
 returns c =
-    let s = c.before.before.before.before.before.before.before in
+    let s = c in
     let a = s.args in
-    let w = c.before.before.before.put-contents in
+    let w = c.put_contents-cut in
     cut_short (sheet_in a.copy.now) a.n a.used w.result.next w.result.left a.revision a.seat a.stamp (lines_from a.lines 0 a.m)
-    a.store.now w.new.0 w.ensures c.if1.true
+    a.store.now w.new.store w.ensures c.if-left-eq0.true
 
-put-commit-block-requires : tie.Need-put-commit-block-requires
+put-commit-block-requires : tie.Need-put_commit_block-requires
 unfolding contents
 put-commit-block-requires c κs =
     let s = c.before.before.before.before.before.before.before.before in
-    let w = c.before.before.before.before.put-contents in
-    (omega (arith, s.requires.room, w.ensures.place, length-take s.args.n (contents s), w.auto.0), (s.requires.small, s.requires.tells))
+    let w = c.put_contents-cut in
+    (omega (arith, s.requires.room, w.ensures.place, length-take s.args.n (contents s), w.auto.store), (s.requires.small, s.requires.tells))
 
-add-result : tie.Need-overflow-add-result
+add-result : tie.Need-overflow_add-result
 unfolding contents
 add-result c =
     let s = c.before.before.before.before.before.before.before.before.before.before.before in
-    let w = c.before.before.before.before.before.before.before.put-contents in
-    omega (arith, s.requires.room, w.ensures.place, length-take s.args.n (contents s), s.well-formed.0.0)
+    let w = c.put_contents-cut in
+    omega (arith, s.requires.room, w.ensures.place, length-take s.args.n (contents s), s.well_formed.0.0)
 
-returns-2 : tie.Need-returns-2
+returns-2 : tie.Need-returns
 returns-2 c =
-    let s = c.before.before.before.before.before.before.before.before.before.before.before in
+    let s = c in
     let a = s.args in
-    let w = c.before.before.before.before.before.before.before.put-contents in
-    let v = c.before.before.put-commit-block in
+    let w = c.put_contents-cut in
+    let v = c.put_commit_block in
     cut_none (sheet_in a.copy.now) a.n a.used w.result.next w.result.left a.revision a.seat a.stamp (lines_from a.lines 0 a.m)
-    a.store.now w.new.0 v.new.0 w.ensures c.before.before.before.before.if1.false v.ensures
+    a.store.now w.new.store v.new.store w.ensures c.if-left-eq0.false v.ensures
 
-pub write-some-spec : {M : Type 1} → statement M
-write-some-spec =
+pub write_some_spec : {M : Type 1} → statement M
+write_some_spec =
     tie.close
     (tie.spec
     put-contents-requires
