@@ -1,5 +1,7 @@
 -- Add, one law for each answer.
 -- Assumes nothing.
+use mathlib.Core.Bool.{not}
+use mathlib.Core.Path.{ap}
 use native.Mathlib.Omega.{arith}
 use borrow.Author.Rules.{rules}
 use Rattle.local.proofs.States.{add-put, not-empty, was_empty}
@@ -27,7 +29,7 @@ returns-3 c =
     let a = c.args in
     let e = c.entry_at-old in
     add_occupied a.copy.now a.sheet a.bytes.now c.if-sheet-gt31.false c.if-bytes-gt480.false
-    (not-empty a.copy.now a.sheet e.result e.ensures c.is_empty.ensures c.if-not-is_empty.true)
+    (not-empty a.copy.now a.sheet e.result e.ensures c.is_empty.ensures (ap not c.if-not-is_empty.true))
 
 put-entry-requires : tie.Need-put_entry-requires
 put-entry-requires c κs =
@@ -42,7 +44,7 @@ returns-4 c =
     let a = c.args in
     let e = c.entry_at-old in
     add_done a.copy.now a.sheet a.bytes.now c.if-sheet-gt31.false c.if-bytes-gt480.false
-    (was_empty a.copy.now a.sheet e.result e.ensures c.is_empty.ensures c.if-not-is_empty.false) c.put_entry.ensures
+    (was_empty a.copy.now a.sheet e.result e.ensures c.is_empty.ensures (ap not c.if-not-is_empty.false)) c.put_entry.ensures
 
 pub add_spec : {M : Type 1} → statement M
 add_spec =

@@ -1,5 +1,6 @@
 -- Copy, one law for each answer.
 -- Assumes nothing.
+use mathlib.Core.Bool.{not}
 use mathlib.Core.Path.{◌∙◌, ap}
 use lib.ListN.{set}
 use Rattle.model.specs.Entry.{Entry}
@@ -48,7 +49,7 @@ returns-4 c =
     let t = c.entry_at-other in
     copy_occupied a.copy.now a.from a.to c.if-from-gt31.false c.if-to-gt31.false
     (was_nothing a.copy.now a.from e.result e.ensures c.nothing_in-missing.ensures c.if-missing.false)
-    (not-empty a.copy.now a.to t.result t.ensures c.is_empty-occupied.ensures c.if-occupied.true)
+    (not-empty a.copy.now a.to t.result t.ensures c.is_empty-occupied.ensures (ap not c.if-occupied.true))
 
 copied-from-requires : tie.Need-copied_from-state-requires
 copied-from-requires c κs = search rules
@@ -61,7 +62,7 @@ copy-entry-requires c κs =
     copy-put a.copy.now c.requires a.from c.if-from-gt31.false e.result e.ensures
     (was_nothing a.copy.now a.from e.result e.ensures c.nothing_in-missing.ensures c.if-missing.false)
     c.copied_from-state.result c.copied_from-state.ensures a.to c.if-to-gt31.false
-    (was_empty a.copy.now a.to t.result t.ensures c.is_empty-occupied.ensures c.if-occupied.false)
+    (was_empty a.copy.now a.to t.result t.ensures c.is_empty-occupied.ensures (ap not c.if-occupied.false))
 
 same-length-3 : tie.Need-shape_of-copy
 same-length-3 c = search rules
@@ -74,7 +75,7 @@ returns-5 c =
     let t = c.entry_at-other in
     let n = was_nothing l a.from e.result e.ensures c.nothing_in-missing.ensures c.if-missing.false in
     copy_done l a.from a.to c.if-from-gt31.false c.if-to-gt31.false n
-    (was_empty l a.to t.result t.ensures c.is_empty-occupied.ensures c.if-occupied.false)
+    (was_empty l a.to t.result t.ensures c.is_empty-occupied.ensures (ap not c.if-occupied.false))
     (c.copy_entry.ensures
     ∙ ap (λ (x : Entry). copy_bytes (seat_of l) (set (entries_of l) a.to x)) (copy_is l c.requires a.from c.if-from-gt31.false e.result e.ensures n c.copied_from-state.result c.copied_from-state.ensures))
 

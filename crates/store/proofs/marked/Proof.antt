@@ -21,23 +21,21 @@ enum-known-o-3 : tie.Need-enum_known-o-in-Marked-1
 enum-known-o-3 c = search rules
 
 together-requires : tie.Need-together-requires
-together-requires c κs = let k = c.o-in-Marked-1.given in c.requires.0 k.0.0 (ap opened_as k.1)
+together-requires c κs = c.requires.0 c.in-Marked.h (ap opened_as c.in-Marked.is)
 
 returns : tie.Need-returns-then-not-together
 returns c =
-    let k = c.o-in-Marked-1.given in
-    sym (ap (λ o. marked_of c.args.store.now (opened_as o)) k.1 ∙ ap (λ (t : Bool). cond t (Open k.0.0) (Refused StoreLayout)) (sym c.together.ensures ∙ c.if-not-together.true))
+    sym (ap (λ o. marked_of c.args.store.now (opened_as o)) c.in-Marked.is ∙ ap (λ (t : Bool). cond t (Open c.in-Marked.h) (Refused StoreLayout)) (sym c.together.ensures ∙ c.if-not-together.true))
 
 returns-2 : tie.Need-returns-in-Refused
-returns-2 c = let k = c.o-1.given in sym (ap (λ o. marked_of c.args.store.now (opened_as o)) k.1)
+returns-2 c = sym (ap (λ o. marked_of c.args.store.now (opened_as o)) c.in-Refused.is)
 
 returns-3 : tie.Need-returns-in-Plain
 returns-3 c = let s = c in open_plain s.args.store.now c.in-Plain.is s.requires.0 s.requires.1
 
 returns-4 : tie.Need-returns-else-not-together
 returns-4 c =
-    let k = c.o-in-Marked-1.given in
-    sym (ap (λ o. marked_of c.args.store.now (opened_as o)) k.1 ∙ ap (λ (t : Bool). cond t (Open k.0.0) (Refused StoreLayout)) (sym c.together.ensures ∙ c.if-not-together.false))
+    sym (ap (λ o. marked_of c.args.store.now (opened_as o)) c.in-Marked.is ∙ ap (λ (t : Bool). cond t (Open c.in-Marked.h) (Refused StoreLayout)) (sym c.together.ensures ∙ c.if-not-together.false))
 
 pub marked_spec : {M : Type 1} → statement M
 marked_spec =

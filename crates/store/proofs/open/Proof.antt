@@ -102,8 +102,8 @@ is-passed c =
     let s = c.args.store.now in
     let m = c.whole-m.result in
     elim c.if-m-le64.branch-raw [
-      | inl w ↦ subst (PassedAs m s) (sym w.2) w.1.ensures
-      | inr w ↦ subst (PassedAs m s) (sym w.2) w.1.ensures
+      | inl w ↦ subst (PassedAs m s) (sym w.passed-is) w.pass_small-passed.ensures
+      | inr w ↦ subst (PassedAs m s) (sym w.passed-is) w.pass_large-passed.ensures
     ]
 
 marked-requires : tie.Need-marked-requires

@@ -115,7 +115,7 @@ returns-4 c =
     let l = c.loop-at in
     record { is = sym (sym l.invariant.3 ∙ turn_astray look a.n a.store.now l.at l.k l.last l.tab (omega arith) (sym c.kind-kind.ensures ∙ c.if-kind-ne4.false) c.if-k-ne0.false (sym c.mark_stands.ensures ∙ c.if-not-mark_stands.true)); markless = tt }
 
-add_at : tie.Need-overflow_add-at invariant-loop decreases-loop
+add_at : tie.Need-overflow_add-at-then-two_at-last invariant-loop decreases-loop
 add_at c = search rules
 
 loop-less : tie.Need-loop-at-smaller-then-two_at-last invariant-loop decreases-loop
@@ -177,7 +177,7 @@ two-at-requires-2 c κs = search rules
 cast-m : tie.Need-overflow_cast-m invariant-loop decreases-loop
 cast-m c = search rules
 
-add-last : tie.Need-overflow_add-last invariant-loop decreases-loop
+add-last : tie.Need-overflow_add-last-in-loop-at invariant-loop decreases-loop
 add-last c = search rules
 
 grow-requires : tie.Need-grow-requires invariant-loop decreases-loop
