@@ -9,15 +9,15 @@ use Rattle.entries.proofs.agreed.Tie as tie
 unlike-requires : tie.Need-unlike-requires
 unlike-requires c κs = search rules
 
-returns : tie.Need-returns
+returns : tie.Need-returns-then-not-unlike
 returns c =
-    let k = c.before.before.before.before in
-    agreed_so k.args.store.now k.args.copy.now k.args.i k.args.p c.before.unlike.ensures (not-true _ c.if1.true)
+    let k = c in
+    agreed_so k.args.store.now k.args.copy.now k.args.i k.args.p c.unlike.ensures (c.if-not-unlike.true)
 
-returns-2 : tie.Need-returns-2
+returns-2 : tie.Need-returns
 returns-2 c =
-    let k = c.before.before.before.before in
-    agreed-not k.args.store.now k.args.copy.now k.args.i k.args.p c.before.unlike.ensures (not-false _ c.if1.false)
+    let k = c in
+    agreed-not k.args.store.now k.args.copy.now k.args.i k.args.p c.unlike.ensures (c.if-not-unlike.false)
 
-pub agreed-spec : {M : Type 1} → statement M
-agreed-spec = tie.close (tie.spec unlike-requires returns returns-2)
+pub agreed_spec : {M : Type 1} → statement M
+agreed_spec = tie.close (tie.spec unlike-requires returns returns-2)

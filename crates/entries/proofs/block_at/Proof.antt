@@ -6,18 +6,18 @@ use Rattle.entries.proofs.Looking.{holding_found, holding_unnamed}
 use Rattle.entries.proofs.block_at.Statement.{statement}
 use Rattle.entries.proofs.block_at.Tie as tie
 
-look-up-requires : tie.Need-look-up-requires
+look-up-requires : tie.Need-look_up-g-requires
 look-up-requires c κs = search rules
 
-returns : tie.Need-returns
+returns : tie.Need-returns-then-b-f
 returns c =
-    let k = c.before.before.before.before in
-    holding_found k.args.store.now k.args.v k.requires.0 k.args.b k.args.i k.requires.2 c.look_up.ensures
+    let k = c in
+    holding_found k.args.store.now k.args.v k.requires.0 k.args.b k.args.i k.requires.2 c.look_up-g.ensures
 
-returns-2 : tie.Need-returns-2
+returns-2 : tie.Need-returns
 returns-2 c =
-    let k = c.before.before.before in
+    let k = c in
     holding_unnamed k.args.store.now k.args.v k.requires.0 k.args.b k.args.i k.requires.1 k.requires.2 (omega arith)
 
-pub block-at-spec : {M : Type 1} → statement M
-block-at-spec = tie.close (tie.spec look-up-requires returns returns-2)
+pub block_at_spec : {M : Type 1} → statement M
+block_at_spec = tie.close (tie.spec look-up-requires returns returns-2)

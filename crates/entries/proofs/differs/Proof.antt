@@ -10,20 +10,20 @@ use Rattle.entries.proofs.differs.Statement.{statement}
 use Rattle.entries.specs.View.{bytes_of}
 use Rattle.entries.proofs.differs.Tie as tie
 
-look-up-requires : tie.Need-look-up-requires
+look-up-requires : tie.Need-look_up-f-requires
 look-up-requires c κs = search rules
 
 unlike-requires : tie.Need-unlike-requires
 unlike-requires c κs =
-    let k = c.before.before.before in
+    let k = c in
     let v = k.requires.0 in
-    (v.opened.accepted.clear, v.accepted, k.requires.1, (holding_found k.args.store.now k.args.v v.opened k.args.r k.args.s k.requires.2 c.look_up.ensures).used)
+    (v.opened.accepted.clear, v.accepted, k.requires.1, (holding_found k.args.store.now k.args.v v.opened k.args.r k.args.s k.requires.2 c.look_up-f.ensures).used)
 
 returns : tie.Need-returns
 returns c =
-    let k = c.before.before.before.before in
-    let H = holding_found k.args.store.now k.args.v k.requires.0.opened k.args.r k.args.s k.requires.2 c.before.look_up.ensures in
+    let k = c in
+    let H = holding_found k.args.store.now k.args.v k.requires.0.opened k.args.r k.args.s k.requires.2 c.look_up-f.ensures in
     c.unlike.ensures ∙ ap (λ (o : Option Bytes). not (is_bytes (bytes_of k.args.copy.now k.args.i) o)) H.holds
 
-pub differs-spec : {M : Type 1} → statement M
-differs-spec = tie.close (tie.spec look-up-requires unlike-requires returns)
+pub differs_spec : {M : Type 1} → statement M
+differs_spec = tie.close (tie.spec look-up-requires unlike-requires returns)

@@ -8,62 +8,62 @@ use Rattle.entries.proofs.States.{as_read}
 use Rattle.entries.proofs.fits_at.Statement.{statement}
 use Rattle.entries.proofs.fits_at.Tie as tie
 
-entry-at-requires : tie.Need-entry-at-requires
+entry-at-requires : tie.Need-entry_at-e-requires
 entry-at-requires c κs = search rules
 
-enum_told : tie.Need-enum-told
+enum_told : tie.Need-enum_told-1
 enum_told c = search rules
 
-enum-known-state : tie.Need-enum-known-state
+enum-known-state : tie.Need-enum_known-state
 enum-known-state c = search rules
 
-cast-has : tie.Need-overflow-cast-has
+cast-has : tie.Need-overflow_cast-base
 cast-has c = search rules
 
 has-requires : tie.Need-has-requires
 has-requires c κs = search rules
 
-enum-told-2 : tie.Need-enum-told-2
+enum-told-2 : tie.Need-enum_told-in-Added
 enum-told-2 c = search rules
 
-enum-known-state-2 : tie.Need-enum-known-state-2
+enum-known-state-2 : tie.Need-enum_known-state-in-Deleted-1
 enum-known-state-2 c = search rules
 
-cast-has-2 : tie.Need-overflow-cast-has-2
+cast-has-2 : tie.Need-overflow_cast-base-in-Deleted
 cast-has-2 c = search rules
 
-has-requires-2 : tie.Need-has-requires-2
+has-requires-2 : tie.Need-has-requires-in-Deleted
 has-requires-2 c κs = search rules
 
-enum-known-state-3 : tie.Need-enum-known-state-3
+enum-known-state-3 : tie.Need-enum_known-state-in-Copied-1
 enum-known-state-3 c = search rules
 
-cast-has-3 : tie.Need-overflow-cast-has-3
+cast-has-3 : tie.Need-overflow_cast-s
 cast-has-3 c = search rules
 
-cast-has-4 : tie.Need-overflow-cast-has-4
+cast-has-4 : tie.Need-overflow_cast-s-in-Copied
 cast-has-4 c = search rules
 
-has-requires-3 : tie.Need-has-requires-3
+has-requires-3 : tie.Need-has-requires-in-Copied
 has-requires-3 c κs = search rules
 
-returns : tie.Need-returns
-returns c = let a = c.before.before.before.before.before.args in sym (ap (fits_entry (store_history a.store.now) a.i) (as_read c.before.before.entry_at.ensures c.enum_told.given.1))
+returns : tie.Need-returns-in-Empty
+returns c = let a = c.args in sym (ap (fits_entry (store_history a.store.now) a.i) (as_read c.entry_at-e.ensures c.in-Empty.is))
 
-returns-2 : tie.Need-returns-2
-returns-2 c = let a = c.before.before.before.before.before.before.before.args in c.has.ensures ∙ sym (ap (fits_entry (store_history a.store.now) a.i) (as_read c.before.before.before.before.entry_at.ensures c.before.before.state.given.1))
+returns-2 : tie.Need-returns-in-Normal
+returns-2 c = let a = c.args in c.has.ensures ∙ sym (ap (fits_entry (store_history a.store.now) a.i) (as_read c.entry_at-e.ensures c.in-Normal.is))
 
-returns-3 : tie.Need-returns-3
-returns-3 c = let a = c.before.before.before.before.before.args in sym (ap (fits_entry (store_history a.store.now) a.i) (as_read c.before.before.entry_at.ensures c.enum-told2.given.1))
+returns-3 : tie.Need-returns-in-Added
+returns-3 c = let a = c.args in sym (ap (fits_entry (store_history a.store.now) a.i) (as_read c.entry_at-e.ensures c.in-Added.is))
 
-returns-4 : tie.Need-returns-4
-returns-4 c = let a = c.before.before.before.before.before.before.before.args in c.has2.ensures ∙ sym (ap (fits_entry (store_history a.store.now) a.i) (as_read c.before.before.before.before.entry_at.ensures c.before.before.state2.given.1))
+returns-4 : tie.Need-returns-in-Deleted
+returns-4 c = let a = c.args in c.has-in-Deleted.ensures ∙ sym (ap (fits_entry (store_history a.store.now) a.i) (as_read c.entry_at-e.ensures c.in-Deleted.is))
 
-returns-5 : tie.Need-returns-5
-returns-5 c = let a = c.before.before.before.before.before.before.before.before.before.args in c.has3.ensures ∙ sym (ap (fits_entry (store_history a.store.now) a.i) (as_read c.before.before.before.before.before.before.entry_at.ensures c.before.before.before.before.state3.given.1))
+returns-5 : tie.Need-returns-in-Copied
+returns-5 c = let a = c.args in c.has-in-Copied.ensures ∙ sym (ap (fits_entry (store_history a.store.now) a.i) (as_read c.entry_at-e.ensures c.in-Copied.is))
 
-pub fits-at-spec : {M : Type 1} → statement M
-fits-at-spec =
+pub fits_at_spec : {M : Type 1} → statement M
+fits_at_spec =
     tie.close
     (tie.spec
     entry-at-requires

@@ -9,17 +9,17 @@ use Rattle.search.specs.declared.Found.{Found}
 use Rattle.entries.proofs.status_at.Statement.{statement}
 use Rattle.entries.proofs.status_at.Tie as tie
 
-look-up-requires : tie.Need-look-up-requires
+look-up-requires : tie.Need-look_up-newest-requires
 look-up-requires c κs = search rules
 
-status-of-requires : tie.Need-status-of-requires
+status-of-requires : tie.Need-status_of-status-requires
 status-of-requires c κs = search rules
 
 returns : tie.Need-returns
 returns c =
-    let k = c.before.before.before.before in
-    let e = ap (λ (f : Found). f.revision) c.before.look_up.ensures ∙ ap (λ (r : ℕ). namer (store_history k.args.store.now) r k.args.i) k.requires.0.viewed.opened.last in
-    λ j. record { status = c.status-of.ensures j; revision = e j }
+    let k = c in
+    let e = ap (λ (f : Found). f.revision) c.look_up-newest.ensures ∙ ap (λ (r : ℕ). namer (store_history k.args.store.now) r k.args.i) k.requires.0.viewed.opened.last in
+    λ j. record { status = c.status_of-status.ensures j; revision = e j }
 
-pub status-at-spec : {M : Type 1} → statement M
-status-at-spec = tie.close (tie.spec look-up-requires status-of-requires returns)
+pub status_at_spec : {M : Type 1} → statement M
+status_at_spec = tie.close (tie.spec look-up-requires status-of-requires returns)

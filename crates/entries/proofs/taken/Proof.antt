@@ -4,11 +4,11 @@ use borrow.Author.Tests.{eq-eqb, ne_eqb}
 use Rattle.entries.proofs.taken.Statement.{statement}
 use Rattle.entries.proofs.taken.Tie as tie
 
-returns : tie.Need-returns
-returns c = rw (eq-eqb c.before.args.p 0 c.if1.true)
+returns : tie.Need-returns-then-p-eq0
+returns c = rw (eq-eqb c.args.p 0 c.if-p-eq0.true)
 
-returns-2 : tie.Need-returns-2
-returns-2 c = rw (ne_eqb c.before.args.p 0 c.if1.false)
+returns-2 : tie.Need-returns
+returns-2 c = rw (ne_eqb c.args.p 0 c.if-p-eq0.false)
 
-pub taken-spec : {M : Type 1} → statement M
-taken-spec = tie.close (tie.spec returns returns-2)
+pub taken_spec : {M : Type 1} → statement M
+taken_spec = tie.close (tie.spec returns returns-2)

@@ -8,62 +8,62 @@ use Rattle.entries.proofs.Comparing.{unlike_held, unlike_none}
 use Rattle.entries.proofs.unlike.Statement.{statement}
 use Rattle.entries.proofs.unlike.Tie as tie
 
-returns : tie.Need-returns
-returns c = let k = c.before.before.before in unlike_none k.args.store.now k.args.copy.now k.args.i k.args.p c.if1.true
+returns : tie.Need-returns-then-p-eq0
+returns c = let k = c in unlike_none k.args.store.now k.args.copy.now k.args.i k.args.p c.if-p-eq0.true
 
-span-at-requires : tie.Need-span-at-requires
-span-at-requires c κs = let k = c.before.before.before in omega (arith, k.requires.3, taken-room k.args.store.now k.requires.0)
+span-at-requires : tie.Need-span_at-q-requires
+span-at-requires c κs = let k = c in omega (arith, k.requires.3, taken-room k.args.store.now k.requires.0)
 
-add-b : tie.Need-overflow-add-b
+add-b : tie.Need-overflow_add-b
 add-b c = search rules
 
-entry-at-requires : tie.Need-entry-at-requires
+entry-at-requires : tie.Need-entry_at-e-requires
 entry-at-requires c κs = search rules
 
-add-c : tie.Need-overflow-add-c
+add-c : tie.Need-overflow_add-c
 add-c c = search rules
 
-mul-c : tie.Need-overflow-mul-c
+mul-c : tie.Need-overflow_mul-c
 mul-c c = search rules
 
-add-c-2 : tie.Need-overflow-add-c-2
+add-c-2 : tie.Need-overflow_add-c-2
 add-c-2 c = search rules
 
-add-d : tie.Need-overflow-add-d
+add-d : tie.Need-overflow_add-d
 add-d c = search rules
 
-sub-same-part : tie.Need-overflow-sub-same-part
+sub-same-part : tie.Need-slice_bounds-same_part-count
 sub-same-part c = search rules
 
-part-same-part-start : tie.Need-slice-bounds-same-part-start
+part-same-part-start : tie.Need-slice_bounds-same_part-start
 part-same-part-start c = search rules
 
-part-same-part-end : tie.Need-slice-bounds-same-part-end
+part-same-part-end : tie.Need-slice_bounds-same_part-end
 part-same-part-end c = search rules
 
-sub-same-part-2 : tie.Need-overflow-sub-same-part-2
+sub-same-part-2 : tie.Need-slice_bounds-same_part-count-2
 sub-same-part-2 c = search rules
 
-part-same-part-start-2 : tie.Need-slice-bounds-same-part-start-2
+part-same-part-start-2 : tie.Need-slice_bounds-same_part-start-2
 part-same-part-start-2 c = search rules
 
-part-same-part-end-2 : tie.Need-slice-bounds-same-part-end-2
+part-same-part-end-2 : tie.Need-slice_bounds-same_part-end-2
 part-same-part-end-2 c = search rules
 
-same-part-requires : tie.Need-same-part-requires
+same-part-requires : tie.Need-same_part-requires
 same-part-requires c κs = search rules
 
-returns-2 : tie.Need-returns-2
+returns-2 : tie.Need-returns
 returns-2 c =
-    let k = c.before.before.before.before.before.before.before.before.before.before in
-    let q = c.before.before.before.before.before.before.span-at.result in
-    let e = c.before.before.before.before.entry_at.result in
+    let k = c in
+    let q = c.span_at-q.result in
+    let e = c.entry_at-e.result in
     unlike_held k.args.store.now k.args.copy.now k.args.i k.args.p
     (512 * (k.args.i + 1) + 16 + e.len - (512 * (k.args.i + 1) + 16)) (q.start + q.len - q.start)
-    k.requires.0 k.requires.3 c.before.before.before.before.before.before.before.if1.false c.before.before.before.before.before.before.span-at.ensures c.before.before.before.before.entry_at.ensures (omega arith) (omega arith) c.same-part.ensures
+    k.requires.0 k.requires.3 c.if-p-eq0.false c.span_at-q.ensures c.entry_at-e.ensures (omega arith) (omega arith) c.same_part.ensures
 
-pub unlike-spec : {M : Type 1} → statement M
-unlike-spec =
+pub unlike_spec : {M : Type 1} → statement M
+unlike_spec =
     tie.close
     (tie.spec
     returns

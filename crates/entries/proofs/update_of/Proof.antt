@@ -9,137 +9,137 @@ use Rattle.entries.proofs.Updating.{agreed-added, agreed-copied, agreed-modified
 use Rattle.entries.proofs.update_of.Statement.{statement}
 use Rattle.entries.proofs.update_of.Tie as tie
 
-look-up-requires : tie.Need-look-up-requires
+look-up-requires : tie.Need-look_up-to-requires
 look-up-requires c κs = search rules
 
-entry-at-requires : tie.Need-entry-at-requires
+entry-at-requires : tie.Need-entry_at-e-requires
 entry-at-requires c κs = search rules
 
-enum_told : tie.Need-enum-told
+enum_told : tie.Need-enum_told-1
 enum_told c = search rules
 
 taken-requires : tie.Need-taken-requires
 taken-requires c κs = search rules
 
-enum-known-state : tie.Need-enum-known-state
+enum-known-state : tie.Need-enum_known-state
 enum-known-state c = search rules
 
-cast-look-up : tie.Need-overflow-cast-look-up
+cast-look-up : tie.Need-overflow_cast-base
 cast-look-up c = search rules
 
-look-up-requires-2 : tie.Need-look-up-requires-2
+look-up-requires-2 : tie.Need-look_up-from-requires
 look-up-requires-2 c κs =
-    let k = c.before.before.before.before.before.before.before in
+    let k = c in
     let o = k.requires.0.viewed.opened in
-    (o.accepted, omega (arith, o.last, normal_base k.args.store.now k.args.copy.now k.args.v k.requires.0 c.before.before.before.entry_at.ensures c.before.state.given.1), k.requires.1)
+    (o.accepted, omega (arith, o.last, normal_base k.args.store.now k.args.copy.now k.args.v k.requires.0 c.entry_at-e.ensures c.in-Normal.is), k.requires.1)
 
 unlike-requires : tie.Need-unlike-requires
 unlike-requires c κs =
-    let k = c.before.before.before.before.before.before.before.before in
+    let k = c in
     let w = k.requires.0.viewed in
-    (w.opened.accepted.clear, w.accepted, k.requires.1, found-used k.args.store.now k.args.v w.opened (_) k.args.i (normal_base k.args.store.now k.args.copy.now k.args.v k.requires.0 c.before.before.before.before.entry_at.ensures c.before.before.state.given.1) c.look-up2.ensures)
+    (w.opened.accepted.clear, w.accepted, k.requires.1, found-used k.args.store.now k.args.v w.opened (_) k.args.i (normal_base k.args.store.now k.args.copy.now k.args.v k.requires.0 c.entry_at-e.ensures c.in-Normal.is) c.look_up-from.ensures)
 
-taken-requires-2 : tie.Need-taken-requires-2
+taken-requires-2 : tie.Need-taken-requires-then-not-unlike
 taken-requires-2 c κs = search rules
 
-returns : tie.Need-returns
+returns : tie.Need-returns-then-not-unlike
 returns c =
-    let k = c.before.before.before.before.before.before.before.before.before.before.before in
-    update_unmodified k.args.store.now k.args.copy.now k.args.v k.requires.0.viewed.opened k.args.r k.args.i k.requires.2 c.before.before.before.before.before.before.before.before.look_up.ensures c.before.before.before.before.before.before.before.entry_at.ensures
-    c.before.before.before.look-up2.ensures c.before.before.before.before.before.state.given.1 (normal_base k.args.store.now k.args.copy.now k.args.v k.requires.0 c.before.before.before.before.before.before.before.entry_at.ensures c.before.before.before.before.before.state.given.1) c.before.before.unlike.ensures (not-true _ c.before.if1.true) c.taken2.ensures
+    let k = c in
+    update_unmodified k.args.store.now k.args.copy.now k.args.v k.requires.0.viewed.opened k.args.r k.args.i k.requires.2 c.look_up-to.ensures c.entry_at-e.ensures
+    c.look_up-from.ensures c.in-Normal.is (normal_base k.args.store.now k.args.copy.now k.args.v k.requires.0 c.entry_at-e.ensures c.in-Normal.is) c.unlike.ensures (c.if-not-unlike.true) c.taken-then-not-unlike.ensures
 
-returns-2 : tie.Need-returns-2
+returns-2 : tie.Need-returns-then-to-from
 returns-2 c =
-    let k = c.before.before.before.before.before.before.before.before.before.before.before.before.before in
-    update_modified k.args.store.now k.args.copy.now k.args.v k.requires.0.viewed.opened k.args.r k.args.i k.requires.2 c.before.before.before.before.before.before.before.before.before.before.look_up.ensures c.before.before.before.before.before.before.before.before.before.entry_at.ensures
-    c.before.before.before.before.before.look-up2.ensures c.before.before.before.before.before.before.before.state.given.1 (normal_base k.args.store.now k.args.copy.now k.args.v k.requires.0 c.before.before.before.before.before.before.before.before.before.entry_at.ensures c.before.before.before.before.before.before.before.state.given.1) c.before.before.before.before.unlike.ensures (not-false _ c.before.before.before.if1.false) c.if2.true
+    let k = c in
+    update_modified k.args.store.now k.args.copy.now k.args.v k.requires.0.viewed.opened k.args.r k.args.i k.requires.2 c.look_up-to.ensures c.entry_at-e.ensures
+    c.look_up-from.ensures c.in-Normal.is (normal_base k.args.store.now k.args.copy.now k.args.v k.requires.0 c.entry_at-e.ensures c.in-Normal.is) c.unlike.ensures (c.if-not-unlike.false) c.if-to-from.true
 
 agreed-requires : tie.Need-agreed-requires
 agreed-requires c κs =
-    let k = c.before.before.before.before.before.before.before.before.before.before.before.before.before in
+    let k = c in
     let w = k.requires.0.viewed in
-    (w.opened.accepted.clear, w.accepted, k.requires.1, found-used k.args.store.now k.args.v w.opened k.args.r k.args.i k.requires.2 c.before.before.before.before.before.before.before.before.before.before.look_up.ensures)
+    (w.opened.accepted.clear, w.accepted, k.requires.1, found-used k.args.store.now k.args.v w.opened k.args.r k.args.i k.requires.2 c.look_up-to.ensures)
 
-enum-told-2 : tie.Need-enum-told-2
+enum-told-2 : tie.Need-enum_told-in-Added
 enum-told-2 c = search rules
 
-returns-3 : tie.Need-returns-3
+returns-3 : tie.Need-returns-then-p-eq0
 returns-3 c =
-    let k = c.before.before.before.before.before.before.before in
-    stay_added k.args.store.now k.args.copy.now k.args.v k.requires.0.viewed.opened k.args.r k.args.i k.requires.2 c.before.before.before.before.look_up.ensures c.before.before.before.entry_at.ensures
-    c.if3.true c.before.enum-told2.given.1
+    let k = c in
+    stay_added k.args.store.now k.args.copy.now k.args.v k.requires.0.viewed.opened k.args.r k.args.i k.requires.2 c.look_up-to.ensures c.entry_at-e.ensures
+    c.if-p-eq0.true c.in-Added.is
 
-agreed-requires-2 : tie.Need-agreed-requires-2
+agreed-requires-2 : tie.Need-agreed-requires-in-Added
 agreed-requires-2 c κs =
-    let k = c.before.before.before.before.before.before.before in
+    let k = c in
     let w = k.requires.0.viewed in
-    (w.opened.accepted.clear, w.accepted, k.requires.1, found-used k.args.store.now k.args.v w.opened k.args.r k.args.i k.requires.2 c.before.before.before.before.look_up.ensures)
+    (w.opened.accepted.clear, w.accepted, k.requires.1, found-used k.args.store.now k.args.v w.opened k.args.r k.args.i k.requires.2 c.look_up-to.ensures)
 
-enum-known-state-2 : tie.Need-enum-known-state-2
+enum-known-state-2 : tie.Need-enum_known-state-in-Deleted-1
 enum-known-state-2 c = search rules
 
-cast-look-up-2 : tie.Need-overflow-cast-look-up-2
+cast-look-up-2 : tie.Need-overflow_cast-base-in-Deleted
 cast-look-up-2 c = search rules
 
-look-up-requires-3 : tie.Need-look-up-requires-3
+look-up-requires-3 : tie.Need-look_up-from-requires-in-Deleted
 look-up-requires-3 c κs =
-    let k = c.before.before.before.before.before.before.before in
+    let k = c in
     let o = k.requires.0.viewed.opened in
-    (o.accepted, omega (arith, o.last, deleted_base k.args.store.now k.args.copy.now k.args.v k.requires.0 c.before.before.before.entry_at.ensures c.before.state2.given.1), k.requires.1)
+    (o.accepted, omega (arith, o.last, deleted_base k.args.store.now k.args.copy.now k.args.v k.requires.0 c.entry_at-e.ensures c.in-Deleted.is), k.requires.1)
 
-returns-4 : tie.Need-returns-4
+returns-4 : tie.Need-returns-then-to-from-2
 returns-4 c =
-    let k = c.before.before.before.before.before.before.before.before.before.before.before in
-    update_deleted k.args.store.now k.args.copy.now k.args.v k.requires.0.viewed.opened k.args.r k.args.i k.requires.2 c.before.before.before.before.before.before.before.before.look_up.ensures c.before.before.before.before.before.before.before.entry_at.ensures
-    c.before.before.before.look-up3.ensures c.before.before.before.before.before.state2.given.1 c.if4.true
+    let k = c in
+    update_deleted k.args.store.now k.args.copy.now k.args.v k.requires.0.viewed.opened k.args.r k.args.i k.requires.2 c.look_up-to.ensures c.entry_at-e.ensures
+    c.look_up-from-in-Deleted.ensures c.in-Deleted.is c.if-to-from-2.true
 
-enum-told-3 : tie.Need-enum-told-3
+enum-told-3 : tie.Need-enum_told-in-Copied
 enum-told-3 c = search rules
 
-returns-5 : tie.Need-returns-5
+returns-5 : tie.Need-returns-then-p-eq0-2
 returns-5 c =
-    let k = c.before.before.before.before.before.before.before in
-    stay_copied k.args.store.now k.args.copy.now k.args.v k.requires.0.viewed.opened k.args.r k.args.i k.requires.2 c.before.before.before.before.look_up.ensures c.before.before.before.entry_at.ensures
-    c.if5.true c.before.enum-told3.given.1
+    let k = c in
+    stay_copied k.args.store.now k.args.copy.now k.args.v k.requires.0.viewed.opened k.args.r k.args.i k.requires.2 c.look_up-to.ensures c.entry_at-e.ensures
+    c.if-p-eq0-2.true c.in-Copied.is
 
-agreed-requires-3 : tie.Need-agreed-requires-3
+agreed-requires-3 : tie.Need-agreed-requires-in-Copied
 agreed-requires-3 c κs =
-    let k = c.before.before.before.before.before.before.before in
+    let k = c in
     let w = k.requires.0.viewed in
-    (w.opened.accepted.clear, w.accepted, k.requires.1, found-used k.args.store.now k.args.v w.opened k.args.r k.args.i k.requires.2 c.before.before.before.before.look_up.ensures)
+    (w.opened.accepted.clear, w.accepted, k.requires.1, found-used k.args.store.now k.args.v w.opened k.args.r k.args.i k.requires.2 c.look_up-to.ensures)
 
-returns-6 : tie.Need-returns-6
+returns-6 : tie.Need-returns-in-Empty
 returns-6 c =
-    let k = c.before.before.before.before.before.before.before in
-    update_empty k.args.store.now k.args.copy.now k.args.v k.requires.0.viewed.opened k.args.r k.args.i k.requires.2 c.before.before.before.before.look_up.ensures c.before.before.before.entry_at.ensures
-    c.before.enum_told.given.1 c.taken.ensures
+    let k = c in
+    update_empty k.args.store.now k.args.copy.now k.args.v k.requires.0.viewed.opened k.args.r k.args.i k.requires.2 c.look_up-to.ensures c.entry_at-e.ensures
+    c.in-Empty.is c.taken.ensures
 
-returns-7 : tie.Need-returns-7
+returns-7 : tie.Need-returns-else-to-from
 returns-7 c =
-    let k = c.before.before.before.before.before.before.before.before.before.before.before.before.before.before in
-    agreed-modified k.args.store.now k.args.copy.now k.args.v k.requires.0.viewed.opened k.args.r k.args.i k.requires.2 c.before.before.before.before.before.before.before.before.before.before.before.look_up.ensures c.before.before.before.before.before.before.before.before.before.before.entry_at.ensures
-    c.before.before.before.before.before.before.look-up2.ensures c.before.before.before.before.before.before.before.before.state.given.1 (normal_base k.args.store.now k.args.copy.now k.args.v k.requires.0 c.before.before.before.before.before.before.before.before.before.before.entry_at.ensures c.before.before.before.before.before.before.before.before.state.given.1) c.before.before.before.before.before.unlike.ensures (not-false _ c.before.before.before.before.if1.false) c.before.if2.false c.agreed.ensures
+    let k = c in
+    agreed-modified k.args.store.now k.args.copy.now k.args.v k.requires.0.viewed.opened k.args.r k.args.i k.requires.2 c.look_up-to.ensures c.entry_at-e.ensures
+    c.look_up-from.ensures c.in-Normal.is (normal_base k.args.store.now k.args.copy.now k.args.v k.requires.0 c.entry_at-e.ensures c.in-Normal.is) c.unlike.ensures (c.if-not-unlike.false) c.if-to-from.false c.agreed.ensures
 
-returns-8 : tie.Need-returns-8
+returns-8 : tie.Need-returns-else-p-eq0
 returns-8 c =
-    let k = c.before.before.before.before.before.before.before.before in
-    agreed-added k.args.store.now k.args.copy.now k.args.v k.requires.0.viewed.opened k.args.r k.args.i k.requires.2 c.before.before.before.before.before.look_up.ensures c.before.before.before.before.entry_at.ensures
-    c.before.if3.false c.agreed2.ensures c.before.before.enum-told2.given.1
+    let k = c in
+    agreed-added k.args.store.now k.args.copy.now k.args.v k.requires.0.viewed.opened k.args.r k.args.i k.requires.2 c.look_up-to.ensures c.entry_at-e.ensures
+    c.if-p-eq0.false c.agreed-in-Added.ensures c.in-Added.is
 
-returns-9 : tie.Need-returns-9
+returns-9 : tie.Need-returns-else-to-from-2
 returns-9 c =
-    let k = c.before.before.before.before.before.before.before.before.before.before.before in
-    conflict-deleted k.args.store.now k.args.copy.now k.args.v k.requires.0.viewed.opened k.args.r k.args.i k.requires.2 c.before.before.before.before.before.before.before.before.look_up.ensures c.before.before.before.before.before.before.before.entry_at.ensures
-    c.before.before.before.look-up3.ensures c.before.before.before.before.before.state2.given.1 c.if4.false
+    let k = c in
+    conflict-deleted k.args.store.now k.args.copy.now k.args.v k.requires.0.viewed.opened k.args.r k.args.i k.requires.2 c.look_up-to.ensures c.entry_at-e.ensures
+    c.look_up-from-in-Deleted.ensures c.in-Deleted.is c.if-to-from-2.false
 
-returns-10 : tie.Need-returns-10
+returns-10 : tie.Need-returns-else-p-eq0-2
 returns-10 c =
-    let k = c.before.before.before.before.before.before.before.before in
-    agreed-copied k.args.store.now k.args.copy.now k.args.v k.requires.0.viewed.opened k.args.r k.args.i k.requires.2 c.before.before.before.before.before.look_up.ensures c.before.before.before.before.entry_at.ensures
-    c.before.if5.false c.agreed3.ensures c.before.before.enum-told3.given.1
+    let k = c in
+    agreed-copied k.args.store.now k.args.copy.now k.args.v k.requires.0.viewed.opened k.args.r k.args.i k.requires.2 c.look_up-to.ensures c.entry_at-e.ensures
+    c.if-p-eq0-2.false c.agreed-in-Copied.ensures c.in-Copied.is
 
-pub update-of-spec : {M : Type 1} → statement M
-update-of-spec =
+pub update_of_spec : {M : Type 1} → statement M
+update_of_spec =
     tie.close
     (tie.spec
     look-up-requires

@@ -30,120 +30,120 @@ decreases-search store n used end r i found₀ p₀ found p = p
 search-holds : tie.Need-search-init invariant-changes decreases-changes invariant-search decreases-search
 search-holds c = (refl, omega arith, refl)
 
-sub-p : tie.Need-overflow-sub-p invariant-changes decreases-changes invariant-search decreases-search
+sub-p : tie.Need-overflow_sub-p invariant-changes decreases-changes invariant-search decreases-search
 sub-p c = search rules
 
-mul-a : tie.Need-overflow-mul-a invariant-changes decreases-changes invariant-search decreases-search
-mul-a c = let k = c.before.before.before in let w = (passed k.args.store.now k.args.n k.args.used k.requires.0).whole in search rules
+mul-a : tie.Need-overflow_mul-a invariant-changes decreases-changes invariant-search decreases-search
+mul-a c = let k = c in let w = (passed k.args.store.now k.args.n k.args.used k.requires.0).whole in search rules
 
-add-e : tie.Need-overflow-add-e invariant-changes decreases-changes invariant-search decreases-search
-add-e c = let k = c.before.before.before in let w = (passed k.args.store.now k.args.n k.args.used k.requires.0).whole in search rules
+add-e : tie.Need-overflow_add-e invariant-changes decreases-changes invariant-search decreases-search
+add-e c = let k = c in let w = (passed k.args.store.now k.args.n k.args.used k.requires.0).whole in search rules
 
-sub-b : tie.Need-overflow-sub-b invariant-changes decreases-changes invariant-search decreases-search
+sub-b : tie.Need-slice_bounds-b-count invariant-changes decreases-changes invariant-search decreases-search
 sub-b c = search rules
 
-part-b-start : tie.Need-slice-bounds-b-start invariant-changes decreases-changes invariant-search decreases-search
+part-b-start : tie.Need-slice_bounds-b-start invariant-changes decreases-changes invariant-search decreases-search
 part-b-start c = search rules
 
-part-b-end : tie.Need-slice-bounds-b-end invariant-changes decreases-changes invariant-search decreases-search
-part-b-end c = let k = c.before.before.before in let w = (passed k.args.store.now k.args.n k.args.used k.requires.0).whole in search rules
+part-b-end : tie.Need-slice_bounds-b-end invariant-changes decreases-changes invariant-search decreases-search
+part-b-end c = let k = c in let w = (passed k.args.store.now k.args.n k.args.used k.requires.0).whole in search rules
 
 kind-requires : tie.Need-kind-requires invariant-changes decreases-changes invariant-search decreases-search
 kind-requires c κs =
-    let a = c.before.before.before.before.args in
-    let P = passed a.store.now a.n a.used c.before.before.before.before.requires.0 in
-    let l = c.before.before.search in
+    let a = c.args in
+    let P = passed a.store.now a.n a.used c.requires.0 in
+    let l = c.search in
     (part_size a.store.now a.used (l.p - 1) P.whole (omega arith))
 
-search-less : tie.Need-search-smaller invariant-changes decreases-changes invariant-search decreases-search
+search-less : tie.Need-search-smaller-then-kind-ne3 invariant-changes decreases-changes invariant-search decreases-search
 search-less c = search rules
 
-search-again : tie.Need-search-preserved invariant-changes decreases-changes invariant-search decreases-search
+search-again : tie.Need-search-preserved-then-kind-ne3 invariant-changes decreases-changes invariant-search decreases-search
 search-again c =
-    let a = c.before.before.before.before.before.before.args in
-    let P = passed a.store.now a.n a.used c.before.before.before.before.before.before.requires.0 in
-    let l = c.before.before.before.before.search in
-    (l.invariant.0, omega arith, l.invariant.2 ∙ back-skip a.r a.used a.store.now a.i l.p (omega arith) (omega arith) (λ q. absurd (c.if1.true (c.before.kind.ensures ∙ q))))
+    let a = c.args in
+    let P = passed a.store.now a.n a.used c.requires.0 in
+    let l = c.search in
+    (l.invariant.0, omega arith, l.invariant.2 ∙ back-skip a.r a.used a.store.now a.i l.p (omega arith) (omega arith) (λ q. absurd (c.if-kind-ne3.true (c.kind.ensures ∙ q))))
 
-two-at-requires : tie.Need-two-at-requires invariant-changes decreases-changes invariant-search decreases-search
+two-at-requires : tie.Need-two_at-revision-requires invariant-changes decreases-changes invariant-search decreases-search
 two-at-requires c κs = search rules
 
-cast-if2 : tie.Need-overflow-cast-if2 invariant-changes decreases-changes invariant-search decreases-search
+cast-if2 : tie.Need-overflow_cast-revision invariant-changes decreases-changes invariant-search decreases-search
 cast-if2 c = search rules
 
-search-less-2 : tie.Need-search-smaller-2 invariant-changes decreases-changes invariant-search decreases-search
+search-less-2 : tie.Need-search-smaller-then-r-revision invariant-changes decreases-changes invariant-search decreases-search
 search-less-2 c = search rules
 
-search-again-2 : tie.Need-search-preserved-2 invariant-changes decreases-changes invariant-search decreases-search
+search-again-2 : tie.Need-search-preserved-then-r-revision invariant-changes decreases-changes invariant-search decreases-search
 search-again-2 c =
-    let a = c.before.before.before.before.before.before.before.before.args in
-    let P = passed a.store.now a.n a.used c.before.before.before.before.before.before.before.before.requires.0 in
-    let l = c.before.before.before.before.before.before.search in (
+    let a = c.args in
+    let P = passed a.store.now a.n a.used c.requires.0 in
+    let l = c.search in (
       l.invariant.0,
       omega arith,
-      l.invariant.2 ∙ back-skip a.r a.used a.store.now a.i l.p (omega arith) (omega arith) (λ q. omega (arith, c.before.two_at.ensures.0)),
+      l.invariant.2 ∙ back-skip a.r a.used a.store.now a.i l.p (omega arith) (omega arith) (λ q. omega (arith, c.two_at-revision.ensures.0)),
     )
 
-two-at-requires-2 : tie.Need-two-at-requires-2 invariant-changes decreases-changes invariant-search decreases-search
+two-at-requires-2 : tie.Need-two_at-m-requires invariant-changes decreases-changes invariant-search decreases-search
 two-at-requires-2 c κs = search rules
 
-cast-m : tie.Need-overflow-cast-m invariant-changes decreases-changes invariant-search decreases-search
+cast-m : tie.Need-overflow_cast-m invariant-changes decreases-changes invariant-search decreases-search
 cast-m c = search rules
 
 changes-holds : tie.Need-changes-init invariant-changes decreases-changes invariant-search decreases-search
 changes-holds c =
-    let a = c.before.before.before.before.before.before.before.before.before.args in
-    let P = passed a.store.now a.n a.used c.before.before.before.before.before.before.before.before.before.requires.0 in
-    let l = c.before.before.before.before.before.before.before.search in
-    let k = sym c.before.before.before.before.kind.ensures ∙ c.before.before.before.if1.false in
+    let a = c.args in
+    let P = passed a.store.now a.n a.used c.requires.0 in
+    let l = c.search in
+    let k = sym c.kind.ensures ∙ c.if-kind-ne3.false in
     let few = few-changes a.used (l.p - 1) a.store.now P.laws (omega arith) k in (
       l.invariant.0,
-      (omega arith, omega (arith, few, c.two-at2.ensures.0)),
-      l.invariant.2 ∙ back_into a.r a.used a.store.now a.i l.p (omega arith) (omega arith) c.before.before.two_at.result c.two-at2.result k
-          c.before.before.two_at.ensures.0 c.two-at2.ensures.0 (omega arith),
+      (omega arith, omega (arith, few, c.two_at-m.ensures.0)),
+      l.invariant.2 ∙ back_into a.r a.used a.store.now a.i l.p (omega arith) (omega arith) c.two_at-revision.result c.two_at-m.result k
+          c.two_at-revision.ensures.0 c.two_at-m.ensures.0 (omega arith),
     )
 
-search-less-3 : tie.Need-search-smaller-3 invariant-changes decreases-changes invariant-search decreases-search
+search-less-3 : tie.Need-search-smaller invariant-changes decreases-changes invariant-search decreases-search
 search-less-3 c = search rules
 
-search-again-3 : tie.Need-search-preserved-3 invariant-changes decreases-changes invariant-search decreases-search
+search-again-3 : tie.Need-search-preserved invariant-changes decreases-changes invariant-search decreases-search
 search-again-3 c =
-    let a = c.before.before.before.before.before.before.before.before.before.before.before.args in
-    let P = passed a.store.now a.n a.used c.before.before.before.before.before.before.before.before.before.before.before.requires.0 in
-    let l = c.before.before.before.before.before.before.before.before.before.search in
-    let v = c.before.changes in (
+    let a = c.args in
+    let P = passed a.store.now a.n a.used c.requires.0 in
+    let l = c.search in
+    let v = c.changes in (
       v.invariant.0,
       omega arith,
-      v.invariant.2 ∙ hit_none (lent a.store.now (l.p - 1)) a.i c.before.before.before.before.two_at.result
-          c.before.before.two-at2.result v.j (back a.r (blocks_of a.used a.store.now) a.i (l.p - 1)) (omega arith),
+      v.invariant.2 ∙ hit_none (lent a.store.now (l.p - 1)) a.i c.two_at-revision.result
+          c.two_at-m.result v.j (back a.r (blocks_of a.used a.store.now) a.i (l.p - 1)) (omega arith),
     )
 
-mul-o : tie.Need-overflow-mul-o invariant-changes decreases-changes invariant-search decreases-search
+mul-o : tie.Need-overflow_mul-o invariant-changes decreases-changes invariant-search decreases-search
 mul-o c = search rules
 
-add-o : tie.Need-overflow-add-o invariant-changes decreases-changes invariant-search decreases-search
+add-o : tie.Need-overflow_add-o invariant-changes decreases-changes invariant-search decreases-search
 add-o c = search rules
 
-shared-slice-read-if3 : tie.Need-shared-slice-read-if3 invariant-changes decreases-changes invariant-search decreases-search
+shared-slice-read-if3 : tie.Need-bounds-b-o invariant-changes decreases-changes invariant-search decreases-search
 shared-slice-read-if3 c =
-    let a = c.before.before.before.before.before.before.before.before.before.before.before.before.args in
-    let P = passed a.store.now a.n a.used c.before.before.before.before.before.before.before.before.before.before.before.before.requires.0 in
-    let l = c.before.before.before.before.before.before.before.before.before.before.search in
+    let a = c.args in
+    let P = passed a.store.now a.n a.used c.requires.0 in
+    let l = c.search in
     let z = (part_size a.store.now a.used (l.p - 1) P.whole (omega arith)) in omega arith
 
-cast-if3 : tie.Need-overflow-cast-if3 invariant-changes decreases-changes invariant-search decreases-search
-cast-if3 c = omega (arith, c.shared-slice-known2.given (16 + 8 * c.before.before.changes.j))
+cast-if3 : tie.Need-overflow_cast-b invariant-changes decreases-changes invariant-search decreases-search
+cast-if3 c = omega (arith, c.shared_slice_known-in-changes-1.given (16 + 8 * c.changes.j))
 
-add-two-at : tie.Need-overflow-add-two-at invariant-changes decreases-changes invariant-search decreases-search
+add-two-at : tie.Need-overflow_add-o-then-b-o invariant-changes decreases-changes invariant-search decreases-search
 add-two-at c = search rules
 
-two-at-requires-3 : tie.Need-two-at-requires-3 invariant-changes decreases-changes invariant-search decreases-search
+two-at-requires-3 : tie.Need-two_at-block-requires invariant-changes decreases-changes invariant-search decreases-search
 two-at-requires-3 c κs = search rules
 
-cast-block : tie.Need-overflow-cast-block invariant-changes decreases-changes invariant-search decreases-search
+cast-block : tie.Need-overflow_cast-block invariant-changes decreases-changes invariant-search decreases-search
 cast-block c = search rules
 
-add-j : tie.Need-overflow-add-j invariant-changes decreases-changes invariant-search decreases-search
+add-j : tie.Need-overflow_add-j invariant-changes decreases-changes invariant-search decreases-search
 add-j c = search rules
 
 changes-less : tie.Need-changes-smaller invariant-changes decreases-changes invariant-search decreases-search
@@ -151,32 +151,32 @@ changes-less c = search rules
 
 changes-again : tie.Need-changes-preserved invariant-changes decreases-changes invariant-search decreases-search
 changes-again c =
-    let a = c.before.before.before.before.before.before.before.before.before.before.before.before.before.args in
-    let P = passed a.store.now a.n a.used c.before.before.before.before.before.before.before.before.before.before.before.before.before.requires.0 in
-    let l = c.before.before.before.before.before.before.before.before.before.before.before.search in
-    let v = c.before.before.before.changes in (
+    let a = c.args in
+    let P = passed a.store.now a.n a.used c.requires.0 in
+    let l = c.search in
+    let v = c.changes in (
       v.invariant.0,
       (omega arith, v.invariant.1.1),
       v.invariant.2
-          ∙ hit_next (lent a.store.now (l.p - 1)) a.i c.before.before.before.before.before.before.two_at.result
-          c.before.before.before.before.two-at2.result v.j (back a.r (blocks_of a.used a.store.now) a.i (l.p - 1)) (omega arith) c.if3.false,
+          ∙ hit_next (lent a.store.now (l.p - 1)) a.i c.two_at-revision.result
+          c.two_at-m.result v.j (back a.r (blocks_of a.used a.store.now) a.i (l.p - 1)) (omega arith) c.if-b-o.false,
     )
 
-returns : tie.Need-returns invariant-changes decreases-changes invariant-search decreases-search
+returns : tie.Need-returns-after-search invariant-changes decreases-changes invariant-search decreases-search
 returns c =
-    let a = c.before.before.before.args in
-    let l = c.before.search in
+    let a = c.args in
+    let l = c.search in
     l.invariant.0 ∙ sym (l.invariant.2 ∙ back_none a.r (blocks_of a.used a.store.now) a.i l.p (omega arith))
 
-returns-2 : tie.Need-returns-2 invariant-changes decreases-changes invariant-search decreases-search
+returns-2 : tie.Need-returns-then-b-o invariant-changes decreases-changes invariant-search decreases-search
 returns-2 c =
-    let a = c.before.before.before.before.before.before.before.before.before.before.before.before.before.before.args in
-    let P = passed a.store.now a.n a.used c.before.before.before.before.before.before.before.before.before.before.before.before.before.before.requires.0 in
-    let l = c.before.before.before.before.before.before.before.before.before.before.before.before.search in
-    let v = c.before.before.before.before.changes in
-    sym (v.invariant.2 ∙ hit_here (lent a.store.now (l.p - 1)) a.i c.before.before.before.before.before.before.before.two_at.result
-    c.before.before.before.before.before.two-at2.result v.j (back a.r (blocks_of a.used a.store.now) a.i (l.p - 1)) c.two-at3.result (omega arith)
-    c.before.if3.true c.two-at3.ensures.0)
+    let a = c.args in
+    let P = passed a.store.now a.n a.used c.requires.0 in
+    let l = c.search in
+    let v = c.changes in
+    sym (v.invariant.2 ∙ hit_here (lent a.store.now (l.p - 1)) a.i c.two_at-revision.result
+    c.two_at-m.result v.j (back a.r (blocks_of a.used a.store.now) a.i (l.p - 1)) c.two_at-block.result (omega arith)
+    c.if-b-o.true c.two_at-block.ensures.0)
 
 pub find_spec : {M : Type 1} → statement M
 find_spec =

@@ -6,20 +6,20 @@ use Rattle.search.proofs.Finding.{found_back}
 use Rattle.search.proofs.look_up.Statement.{statement}
 use Rattle.search.proofs.look_up.Tie as tie
 
-halved-requires : tie.Need-halved-requires
+halved-requires : tie.Need-halved-end-requires
 halved-requires c κs = search rules
 
 find-requires : tie.Need-find-requires
 find-requires c κs =
-    let k = c.before.before in
-    (k.requires.0, c.halved.ensures.1)
+    let k = c in
+    (k.requires.0, c.halved-end.ensures.1)
 
 returns : tie.Need-returns
 returns c =
-    let k = c.before.before.before in
+    let k = c in
     let a = k.args in
-    let h = c.before.halved in
+    let h = c.halved-end in
     c.find.ensures ∙ found_back a.store.now a.n a.used k.requires.0 a.r h.result a.i h.ensures.0 h.ensures.1 h.ensures.2 k.requires.1 k.requires.2
 
-pub look-up-spec : {M : Type 1} → statement M
-look-up-spec = tie.close (tie.spec halved-requires find-requires returns)
+pub look_up_spec : {M : Type 1} → statement M
+look_up_spec = tie.close (tie.spec halved-requires find-requires returns)

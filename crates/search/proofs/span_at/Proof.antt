@@ -11,37 +11,37 @@ use Rattle.search.proofs.span_at.Statement.{statement}
 use Rattle.store.proofs.Blocks.{bytes_in_lem}
 use Rattle.search.proofs.span_at.Tie as tie
 
-mul-a : tie.Need-overflow-mul-a
+mul-a : tie.Need-overflow_mul-a
 mul-a c = search rules
 
-add-e : tie.Need-overflow-add-e
+add-e : tie.Need-overflow_add-e
 add-e c = search rules
 
-sub-size : tie.Need-overflow-sub-size
+sub-size : tie.Need-slice_bounds-size-count
 sub-size c = search rules
 
-part-size-start : tie.Need-slice-bounds-size-start
+part-size-start : tie.Need-slice_bounds-size-start
 part-size-start c = search rules
 
-part-size-end : tie.Need-slice-bounds-size-end
+part-size-end : tie.Need-slice_bounds-size-end
 part-size-end c = search rules
 
-size-requires : tie.Need-size-requires
+size-requires : tie.Need-size-len-requires
 size-requires c κs = search rules
 
-add-t7 : tie.Need-overflow-add-t7
+add-t7 : tie.Need-overflow_add-result
 add-t7 c = search rules
 
 returns : tie.Need-returns
 returns c =
-    let k = c.before.before.before in
+    let k = c in
     let s = k.args.store.now in
     let p = k.args.p in
     let d : p * 512 + 16 ≡ 512 * p + 16 = omega arith in
-    let e : c.size.result ≡ length (bytes_at (blocks_of (block_count s) s) p) = c.size.ensures.0 ∙ sym (ap length (bytes_in_lem (block_count s) p s k.requires)) in
-    record { is = cc (d, e); inside = omega (arith, k.requires, c.size.ensures.1) }
+    let e : c.size-len.result ≡ length (bytes_at (blocks_of (block_count s) s) p) = c.size-len.ensures.0 ∙ sym (ap length (bytes_in_lem (block_count s) p s k.requires)) in
+    record { is = cc (d, e); inside = omega (arith, k.requires, c.size-len.ensures.1) }
 
-pub span-at-spec : {M : Type 1} → statement M
-span-at-spec =
+pub span_at_spec : {M : Type 1} → statement M
+span_at_spec =
     tie.close
     (tie.spec mul-a add-e sub-size part-size-start part-size-end size-requires add-t7 returns)

@@ -11,42 +11,42 @@ use Rattle.text.proofs.Laws.{digits_end, digits_next, digits_other}
 use Rattle.text.proofs.all_digits.Statement.{statement}
 use Rattle.text.proofs.all_digits.Tie as tie
 
-abbrev invariant-loop : tie.invariant-loop
+abbrev invariant-loop : tie.invariant-loop-i
 invariant-loop w i₀ i = (i ≤ length w) × (all is_digit (drop i w) ≡ all is_digit w)
 
-abbrev decreases-loop : tie.decreases-loop
+abbrev decreases-loop : tie.decreases-loop-i
 decreases-loop w i₀ i = length w - i
 
-loop-holds : tie.Need-loop-init invariant-loop decreases-loop
+loop-holds : tie.Need-loop-i-init invariant-loop decreases-loop
 loop-holds c = (omega arith, refl)
 
-shared-slice-read-digit : tie.Need-shared-slice-read-digit invariant-loop decreases-loop
+shared-slice-read-digit : tie.Need-bounds-w-i invariant-loop decreases-loop
 shared-slice-read-digit c = search rules
 
 digit-requires : tie.Need-digit-requires invariant-loop decreases-loop
 digit-requires c κs = search rules
 
-returns : tie.Need-returns invariant-loop decreases-loop
+returns : tie.Need-returns-then-digit-ge16 invariant-loop decreases-loop
 returns c =
-    let l = c.before.before.before.before in
-    sym (digits_other c.before.before.before.before.before.before.args.w.now l.loop.i c.before.digit.result (omega arith) c.before.digit.ensures.0 c.if1.true) ∙ l.loop.invariant.1
+    let l = c in
+    sym (digits_other c.args.w.now l.loop-i.i c.digit.result (omega arith) c.digit.ensures.0 c.if-digit-ge16.true) ∙ l.loop-i.invariant.1
 
-add-i : tie.Need-overflow-add-i invariant-loop decreases-loop
+add-i : tie.Need-overflow_add-i invariant-loop decreases-loop
 add-i c = search rules
 
-loop-less : tie.Need-loop-smaller invariant-loop decreases-loop
+loop-less : tie.Need-loop-i-smaller invariant-loop decreases-loop
 loop-less c = search rules
 
-loop-again : tie.Need-loop-preserved invariant-loop decreases-loop
+loop-again : tie.Need-loop-i-preserved invariant-loop decreases-loop
 loop-again c =
-    let l = c.before.before.before.before in
-    (omega arith, sym (digits_next c.before.before.before.before.before.before.args.w.now l.loop.i c.before.digit.result (omega arith) c.before.digit.ensures.0 (omega arith)) ∙ l.loop.invariant.1)
+    let l = c in
+    (omega arith, sym (digits_next c.args.w.now l.loop-i.i c.digit.result (omega arith) c.digit.ensures.0 (omega arith)) ∙ l.loop-i.invariant.1)
 
-returns-2 : tie.Need-returns-2 invariant-loop decreases-loop
-returns-2 c = sym (digits_end c.before.before.before.args.w.now c.before.loop.i (omega arith)) ∙ c.before.loop.invariant.1
+returns-2 : tie.Need-returns invariant-loop decreases-loop
+returns-2 c = sym (digits_end c.args.w.now c.loop-i.i (omega arith)) ∙ c.loop-i.invariant.1
 
-pub all-digits-spec : {M : Type 1} → statement M
-all-digits-spec =
+pub all_digits_spec : {M : Type 1} → statement M
+all_digits_spec =
     tie.close
     (tie.spec
     invariant-loop

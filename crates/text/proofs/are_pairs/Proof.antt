@@ -6,17 +6,17 @@ use Rattle.text.proofs.Laws.{are_even, are_none, are_odd}
 use Rattle.text.proofs.are_pairs.Statement.{statement}
 use Rattle.text.proofs.are_pairs.Tie as tie
 
-returns : tie.Need-returns
-returns c = sym (are_none c.before.before.args.w.now c.if1.true)
+returns : tie.Need-returns-then-w-eq0
+returns c = sym (are_none c.args.w.now c.if-w-eq0.true)
 
-returns-2 : tie.Need-returns-2
-returns-2 c = sym (are_odd c.before.before.before.args.w.now c.before.if1.false c.if2.true)
+returns-2 : tie.Need-returns-then-w-ne0
+returns-2 c = sym (are_odd c.args.w.now c.if-w-eq0.false c.if-w-ne0.true)
 
-all-digits-requires : tie.Need-all-digits-requires
+all-digits-requires : tie.Need-all_digits-requires
 all-digits-requires c κs = search rules
 
-returns-3 : tie.Need-returns-3
-returns-3 c = c.all_digits.ensures ∙ sym (are_even c.before.before.before.before.args.w.now c.before.before.if1.false c.before.if2.false)
+returns-3 : tie.Need-returns
+returns-3 c = c.all_digits.ensures ∙ sym (are_even c.args.w.now c.if-w-eq0.false c.if-w-ne0.false)
 
-pub are-pairs-spec : {M : Type 1} → statement M
-are-pairs-spec = tie.close (tie.spec returns returns-2 all-digits-requires returns-3)
+pub are_pairs_spec : {M : Type 1} → statement M
+are_pairs_spec = tie.close (tie.spec returns returns-2 all-digits-requires returns-3)

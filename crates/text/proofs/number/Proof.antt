@@ -7,29 +7,29 @@ use Rattle.text.proofs.Laws.{number-none, number-one, number-zero, number_more}
 use Rattle.text.proofs.number.Statement.{statement}
 use Rattle.text.proofs.number.Tie as tie
 
-returns : tie.Need-returns
-returns c = sym (number-none c.before.before.args.w.now c.if1.true)
+returns : tie.Need-returns-then-w-eq0
+returns c = sym (number-none c.args.w.now c.if-w-eq0.true)
 
 value-requires : tie.Need-value-requires
 value-requires c κs = search rules
 
-returns-2 : tie.Need-returns-2
-returns-2 c = c.value.ensures ∙ sym (number-one c.before.before.before.before.args.w.now c.before.if2.true)
+returns-2 : tie.Need-returns-then-w-eq1
+returns-2 c = c.value.ensures ∙ sym (number-one c.args.w.now c.if-w-eq1.true)
 
-shared-slice-read-if3 : tie.Need-shared-slice-read-if3
+shared-slice-read-if3 : tie.Need-bounds-w-0
 shared-slice-read-if3 c = search rules
 
-returns-3 : tie.Need-returns-3
-returns-3 c = sym (number-zero c.before.before.before.before.before.args.w.now (omega arith) c.if3.true)
+returns-3 : tie.Need-returns-then-w-eq48
+returns-3 c = sym (number-zero c.args.w.now (omega arith) c.if-w-eq48.true)
 
 value-requires-2 : tie.Need-value-requires-2
 value-requires-2 c κs = search rules
 
-returns-4 : tie.Need-returns-4
-returns-4 c = c.value2.ensures ∙ sym (number_more c.before.before.before.before.before.before.args.w.now (omega arith) c.before.if3.false)
+returns-4 : tie.Need-returns
+returns-4 c = c.value-2.ensures ∙ sym (number_more c.args.w.now (omega arith) c.if-w-eq48.false)
 
-pub number-spec : {M : Type 1} → statement M
-number-spec =
+pub number_spec : {M : Type 1} → statement M
+number_spec =
     tie.close
     (tie.spec
     returns

@@ -14,32 +14,32 @@ use Rattle.text.proofs.put_hex.Tie as tie
 put-requires : tie.Need-put-requires
 put-requires c κs = search rules
 
-same_length : tie.Need-same-length
+same_length : tie.Need-shape_of-out-then-s-eq0
 same_length c = search rules
 
-returns : tie.Need-returns
+returns : tie.Need-returns-then-s-eq0
 returns c =
-    let a = c.before.before.before.before.before.before.before.args in
-    let e = hex_empty a.s.now c.before.before.before.before.if1.true in
-    (sym (ap length e), c.before.before.put.ensures ∙ sym (ap (λ (x : List ℕ). written a.at x a.out.now) e ∙ written_one a.at 45 [] a.out.now ∙ written_none (a.at + 1) (set a.out.now a.at 45)))
+    let a = c.args in
+    let e = hex_empty a.s.now c.if-s-eq0.true in
+    (sym (ap length e), c.put.ensures ∙ sym (ap (λ (x : List ℕ). written a.at x a.out.now) e ∙ written_one a.at 45 [] a.out.now ∙ written_none (a.at + 1) (set a.out.now a.at 45)))
 
-put-pairs-requires : tie.Need-put-pairs-requires
+put-pairs-requires : tie.Need-put_pairs-requires
 put-pairs-requires c κs = search rules
 
-mul-result : tie.Need-overflow-mul-result
+mul-result : tie.Need-overflow_mul-result
 mul-result c = search rules
 
-same-length-2 : tie.Need-same-length-2
+same-length-2 : tie.Need-shape_of-out
 same-length-2 c = search rules
 
-returns-2 : tie.Need-returns-2
+returns-2 : tie.Need-returns
 returns-2 c =
-    let a = c.before.before.before.before.before.before.before.args in
-    let e = hex_some a.s.now c.before.before.before.before.if1.false in
-    (sym e.1, c.before.before.put-pairs.ensures ∙ sym (ap (λ (x : List ℕ). written a.at x a.out.now) e.0))
+    let a = c.args in
+    let e = hex_some a.s.now c.if-s-eq0.false in
+    (sym e.1, c.put_pairs.ensures ∙ sym (ap (λ (x : List ℕ). written a.at x a.out.now) e.0))
 
-pub put-hex-spec : {M : Type 1} → statement M
-put-hex-spec =
+pub put_hex_spec : {M : Type 1} → statement M
+put_hex_spec =
     tie.close
     (tie.spec
     put-requires

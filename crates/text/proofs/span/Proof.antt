@@ -10,35 +10,35 @@ use Rattle.text.proofs.Laws.{span_here, span_next, span_end}
 use Rattle.text.proofs.span.Statement.{statement}
 use Rattle.text.proofs.span.Tie as tie
 
-abbrev invariant-loop : tie.invariant-loop
+abbrev invariant-loop : tie.invariant-loop-i
 invariant-loop s b i₀ i = (i ≤ length s) × (i + span_of b (drop i s) ≡ span_of b s)
 
-abbrev decreases-loop : tie.decreases-loop
+abbrev decreases-loop : tie.decreases-loop-i
 decreases-loop s b i₀ i = length s - i
 
-loop-holds : tie.Need-loop-init invariant-loop decreases-loop
+loop-holds : tie.Need-loop-i-init invariant-loop decreases-loop
 loop-holds c = (omega arith, omega arith)
 
-shared-slice-read-if1 : tie.Need-shared-slice-read-if1 invariant-loop decreases-loop
+shared-slice-read-if1 : tie.Need-bounds-s-i invariant-loop decreases-loop
 shared-slice-read-if1 c = search rules
 
-returns : tie.Need-returns invariant-loop decreases-loop
-returns c = let l = c.before.before.before in omega (arith, span_here l.before.args.b l.before.args.s.now l.loop.i (omega arith) c.if1.true)
+returns : tie.Need-returns-then-s-i invariant-loop decreases-loop
+returns c = let l = c in omega (arith, span_here l.args.b l.args.s.now l.loop-i.i (omega arith) c.if-s-i.true)
 
-add-i : tie.Need-overflow-add-i invariant-loop decreases-loop
+add-i : tie.Need-overflow_add-i invariant-loop decreases-loop
 add-i c = search rules
 
-loop-less : tie.Need-loop-smaller invariant-loop decreases-loop
+loop-less : tie.Need-loop-i-smaller invariant-loop decreases-loop
 loop-less c = search rules
 
-loop-again : tie.Need-loop-preserved invariant-loop decreases-loop
-loop-again c = let l = c.before.before.before in (omega arith, omega (arith, span_next l.before.args.b l.before.args.s.now l.loop.i (omega arith) c.if1.false))
+loop-again : tie.Need-loop-i-preserved invariant-loop decreases-loop
+loop-again c = let l = c in (omega arith, omega (arith, span_next l.args.b l.args.s.now l.loop-i.i (omega arith) c.if-s-i.false))
 
-returns-2 : tie.Need-returns-2 invariant-loop decreases-loop
-returns-2 c = let l = c.before in omega (arith, span_end l.before.args.b l.before.args.s.now l.loop.i (omega arith))
+returns-2 : tie.Need-returns invariant-loop decreases-loop
+returns-2 c = let l = c in omega (arith, span_end l.args.b l.args.s.now l.loop-i.i (omega arith))
 
-pub span-spec : {M : Type 1} → statement M
-span-spec =
+pub span_spec : {M : Type 1} → statement M
+span_spec =
     tie.close
     (tie.spec
     invariant-loop

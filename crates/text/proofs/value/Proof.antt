@@ -10,47 +10,47 @@ use Rattle.text.proofs.Laws.{value_other, value_large, value_next, value_end}
 use Rattle.text.proofs.value.Statement.{statement}
 use Rattle.text.proofs.value.Tie as tie
 
-abbrev invariant-loop : tie.invariant-loop
+abbrev invariant-loop : tie.invariant-loop-i
 invariant-loop w n₀ i₀ n i = (i ≤ length w) × (n ≤ 4_294_967_295) × (value_of n (drop i w) ≡ value_of 0 w)
 
-abbrev decreases-loop : tie.decreases-loop
+abbrev decreases-loop : tie.decreases-loop-i
 decreases-loop w n₀ i₀ n i = length w - i
 
-loop-holds : tie.Need-loop-init invariant-loop decreases-loop
+loop-holds : tie.Need-loop-i-init invariant-loop decreases-loop
 loop-holds c = (omega arith, omega arith, refl)
 
-shared-slice-read-digit : tie.Need-shared-slice-read-digit invariant-loop decreases-loop
+shared-slice-read-digit : tie.Need-bounds-w-i invariant-loop decreases-loop
 shared-slice-read-digit c = search rules
 
-digit-requires : tie.Need-digit-requires invariant-loop decreases-loop
+digit-requires : tie.Need-digit-d-requires invariant-loop decreases-loop
 digit-requires c κs = search rules
 
-returns : tie.Need-returns invariant-loop decreases-loop
-returns c = let l = c.before.before.before.before in sym (value_other l.before.before.args.w.now l.loop.n l.loop.i c.before.digit.result (omega arith) c.before.digit.ensures.0 (omega arith)) ∙ l.loop.invariant.2
+returns : tie.Need-returns-then-d-ge10 invariant-loop decreases-loop
+returns c = let l = c in sym (value_other l.args.w.now l.loop-i.n l.loop-i.i c.digit-d.result (omega arith) c.digit-d.ensures.0 (omega arith)) ∙ l.loop-i.invariant.2
 
-mul-n : tie.Need-overflow-mul-n invariant-loop decreases-loop
+mul-n : tie.Need-overflow_mul-n invariant-loop decreases-loop
 mul-n c = search rules
 
-add-n : tie.Need-overflow-add-n invariant-loop decreases-loop
+add-n : tie.Need-overflow_add-n invariant-loop decreases-loop
 add-n c = search rules
 
-returns-2 : tie.Need-returns-2 invariant-loop decreases-loop
-returns-2 c = let l = c.before.before.before.before.before in sym (value_large l.before.before.args.w.now l.loop.n l.loop.i c.before.before.digit.result (omega arith) c.before.before.digit.ensures.0 (omega arith) (omega arith)) ∙ l.loop.invariant.2
+returns-2 : tie.Need-returns-then-n-gt4294967295 invariant-loop decreases-loop
+returns-2 c = let l = c in sym (value_large l.args.w.now l.loop-i.n l.loop-i.i c.digit-d.result (omega arith) c.digit-d.ensures.0 (omega arith) (omega arith)) ∙ l.loop-i.invariant.2
 
-add-i : tie.Need-overflow-add-i invariant-loop decreases-loop
+add-i : tie.Need-overflow_add-i invariant-loop decreases-loop
 add-i c = search rules
 
-loop-less : tie.Need-loop-smaller invariant-loop decreases-loop
+loop-less : tie.Need-loop-i-smaller invariant-loop decreases-loop
 loop-less c = search rules
 
-loop-again : tie.Need-loop-preserved invariant-loop decreases-loop
-loop-again c = let l = c.before.before.before.before.before in (omega arith, omega arith, sym (value_next l.before.before.args.w.now l.loop.n l.loop.i c.before.before.digit.result (omega arith) c.before.before.digit.ensures.0 (omega arith) (omega arith)) ∙ l.loop.invariant.2)
+loop-again : tie.Need-loop-i-preserved invariant-loop decreases-loop
+loop-again c = let l = c in (omega arith, omega arith, sym (value_next l.args.w.now l.loop-i.n l.loop-i.i c.digit-d.result (omega arith) c.digit-d.ensures.0 (omega arith) (omega arith)) ∙ l.loop-i.invariant.2)
 
-cast-t10 : tie.Need-overflow-cast-t10 invariant-loop decreases-loop
+cast-t10 : tie.Need-overflow_cast-result invariant-loop decreases-loop
 cast-t10 c = search rules
 
-returns-3 : tie.Need-returns-3 invariant-loop decreases-loop
-returns-3 c = let l = c.before in sym (value_end l.before.before.args.w.now l.loop.n l.loop.i (omega arith)) ∙ l.loop.invariant.2
+returns-3 : tie.Need-returns invariant-loop decreases-loop
+returns-3 c = let l = c in sym (value_end l.args.w.now l.loop-i.n l.loop-i.i (omega arith)) ∙ l.loop-i.invariant.2
 
 pub value_spec : {M : Type 1} → statement M
 value_spec =
