@@ -11,41 +11,41 @@ use Rattle.command.proofs.Laws.{same_end, same_next, same-other, same-short}
 use Rattle.command.proofs.same.Statement.{statement}
 use Rattle.command.proofs.same.Tie as tie
 
-abbrev invariant-loop : tie.invariant-loop
+abbrev invariant-loop : tie.invariant-loop-i
 invariant-loop a b i₀ i = (i ≤ length a) × (same (drop i a) (drop i b) ≡ same a b)
 
-abbrev decreases-loop : tie.decreases-loop
+abbrev decreases-loop : tie.decreases-loop-i
 decreases-loop a b i₀ i = length a - i
 
-loop-holds : tie.Need-loop-init invariant-loop decreases-loop
+loop-holds : tie.Need-loop-i-init invariant-loop decreases-loop
 loop-holds c = (omega arith, refl)
 
-returns : tie.Need-returns invariant-loop decreases-loop
+returns : tie.Need-returns-then-b-i invariant-loop decreases-loop
 unfolding is_word
-returns c = let l = c.before.before in let a = l.before.args in sym (same-short a.a.now a.b.now l.loop.i (omega arith) (omega arith)) ∙ l.loop.invariant.1
+returns c = let l = c in let a = l.args in sym (same-short a.a.now a.b.now l.loop-i.i (omega arith) (omega arith)) ∙ l.loop-i.invariant.1
 
-shared-slice-read-if2 : tie.Need-shared-slice-read-if2 invariant-loop decreases-loop
+shared-slice-read-if2 : tie.Need-bounds-a-i invariant-loop decreases-loop
 shared-slice-read-if2 c = search rules
 
-shared-slice-read-if2-2 : tie.Need-shared-slice-read-if2-2 invariant-loop decreases-loop
+shared-slice-read-if2-2 : tie.Need-bounds-b-i invariant-loop decreases-loop
 shared-slice-read-if2-2 c = search rules
 
-returns-2 : tie.Need-returns-2 invariant-loop decreases-loop
+returns-2 : tie.Need-returns-then-a-i invariant-loop decreases-loop
 unfolding is_word
-returns-2 c = let l = c.before.before.before.before.before in let a = l.before.args in sym (same-other a.a.now a.b.now l.loop.i (omega arith) (omega arith) c.if2.true) ∙ l.loop.invariant.1
+returns-2 c = let l = c in let a = l.args in sym (same-other a.a.now a.b.now l.loop-i.i (omega arith) (omega arith) c.if-a-i.true) ∙ l.loop-i.invariant.1
 
-add-i : tie.Need-overflow-add-i invariant-loop decreases-loop
+add-i : tie.Need-overflow_add-i invariant-loop decreases-loop
 add-i c = search rules
 
-loop-less : tie.Need-loop-smaller invariant-loop decreases-loop
+loop-less : tie.Need-loop-i-smaller invariant-loop decreases-loop
 loop-less c = search rules
 
-loop-again : tie.Need-loop-preserved invariant-loop decreases-loop
-loop-again c = let l = c.before.before.before.before.before in let a = l.before.args in (omega arith, sym (same_next a.a.now a.b.now l.loop.i (omega arith) (omega arith) c.if2.false) ∙ l.loop.invariant.1)
+loop-again : tie.Need-loop-i-preserved invariant-loop decreases-loop
+loop-again c = let l = c in let a = l.args in (omega arith, sym (same_next a.a.now a.b.now l.loop-i.i (omega arith) (omega arith) c.if-a-i.false) ∙ l.loop-i.invariant.1)
 
-returns-3 : tie.Need-returns-3 invariant-loop decreases-loop
+returns-3 : tie.Need-returns invariant-loop decreases-loop
 unfolding is_word
-returns-3 c = let l = c.before in let a = l.before.args in sym (same_end a.a.now a.b.now l.loop.i (omega arith)) ∙ l.loop.invariant.1
+returns-3 c = let l = c in let a = l.args in sym (same_end a.a.now a.b.now l.loop-i.i (omega arith)) ∙ l.loop-i.invariant.1
 
 pub same_spec : {M : Type 1} → statement M
 same_spec =

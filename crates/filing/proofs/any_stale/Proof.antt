@@ -14,54 +14,54 @@ use Rattle.masks.proofs.Bits.{Lowest, and_cleared, cleared_lt, lowest}
 use Rattle.masks.proofs.Visits.{any_chosen}
 use Rattle.filing.proofs.any_stale.Tie as tie
 
-abbrev invariant-loop : tie.invariant-loop
+abbrev invariant-loop : tie.invariant-loop-m
 invariant-loop store copy v mask m₀ m = (m < 2 ^ 32) × (any_chosen (out_of_date (store_history store)) m (entries_of copy) ≡ some_stale (side_in store copy) mask)
 
-abbrev decreases-loop : tie.decreases-loop
+abbrev decreases-loop : tie.decreases-loop-m
 decreases-loop store copy v mask m₀ m = m
 
-low : (c : tie.In-loop invariant-loop decreases-loop) → (count_trailing_zeros 32 c.before.loop.m < 32) × Lowest c.before.loop.m (count_trailing_zeros 32 c.before.loop.m)
-low c = lowest 32 c.before.loop.m (omega arith) c.before.loop.invariant.0
+low : (c : tie.In-loop-m invariant-loop decreases-loop) → (count_trailing_zeros 32 c.loop-m.m < 32) × Lowest c.loop-m.m (count_trailing_zeros 32 c.loop-m.m)
+low c = lowest 32 c.loop-m.m (omega arith) c.loop-m.invariant.0
 
-loop-holds : tie.Need-loop-init invariant-loop decreases-loop
+loop-holds : tie.Need-loop-m-init invariant-loop decreases-loop
 loop-holds c = (omega arith, refl)
 
-cast-k : tie.Need-overflow-cast-k invariant-loop decreases-loop
+cast-k : tie.Need-overflow_cast-k invariant-loop decreases-loop
 cast-k c = omega (arith, (low c).0)
 
-is-stale-requires : tie.Need-is-stale-requires invariant-loop decreases-loop
-is-stale-requires c κs = (c.before.before.before.before.requires, (low c).0)
+is-stale-requires : tie.Need-is_stale-requires invariant-loop decreases-loop
+is-stale-requires c κs = (c.requires, (low c).0)
 
-returns : tie.Need-returns invariant-loop decreases-loop
+returns : tie.Need-returns-then-is_stale invariant-loop decreases-loop
 returns c =
     let l = low c.before.before in
-    let k = c.before.before.before.before.before.before in
+    let k = c in
     let a = k.args in
-    stale_here a.store.now a.copy.now k.requires.viewed.accepted l.1 l.0 c.before.is_stale_lem.ensures c.if1.true ∙ c.before.before.before.loop.invariant.1
+    stale_here a.store.now a.copy.now k.requires.viewed.accepted l.1 l.0 c.is_stale.ensures c.if-is_stale.true ∙ c.loop-m.invariant.1
 
-sub-m : tie.Need-overflow-sub-m invariant-loop decreases-loop
+sub-m : tie.Need-overflow_sub-m invariant-loop decreases-loop
 sub-m c = omega arith
 
-loop-less : tie.Need-loop-smaller invariant-loop decreases-loop
+loop-less : tie.Need-loop-m-smaller invariant-loop decreases-loop
 loop-less c = let l = low c.before.before in rw (and_cleared l.1) (cleared_lt l.1)
 
-loop-again : tie.Need-loop-preserved invariant-loop decreases-loop
+loop-again : tie.Need-loop-m-preserved invariant-loop decreases-loop
 loop-again c =
     let l = low c.before.before in
-    let k = c.before.before.before.before.before.before in
+    let k = c in
     let a = k.args in
     rw (and_cleared l.1) (
-      omega (arith, cleared_lt l.1, c.before.before.before.loop.invariant.0),
-      stale-next a.store.now a.copy.now k.requires.viewed.accepted l.1 l.0 c.before.is_stale_lem.ensures c.if1.false ∙ c.before.before.before.loop.invariant.1,
+      omega (arith, cleared_lt l.1, c.loop-m.invariant.0),
+      stale-next a.store.now a.copy.now k.requires.viewed.accepted l.1 l.0 c.is_stale.ensures c.if-is_stale.false ∙ c.loop-m.invariant.1,
     )
 
-returns-2 : tie.Need-returns-2 invariant-loop decreases-loop
+returns-2 : tie.Need-returns invariant-loop decreases-loop
 returns-2 c =
-    let a = c.before.before.before.before.args in
-    stale-none a.store.now a.copy.now (omega arith) ∙ c.before.loop.invariant.1
+    let a = c.args in
+    stale-none a.store.now a.copy.now (omega arith) ∙ c.loop-m.invariant.1
 
-pub any-stale-spec : {M : Type 1} → statement M
-any-stale-spec =
+pub any_stale_spec : {M : Type 1} → statement M
+any_stale_spec =
     tie.close
     (tie.spec
     invariant-loop

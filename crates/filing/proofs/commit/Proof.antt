@@ -11,127 +11,127 @@ use Rattle.filing.proofs.commit.Tie as tie
 unfiled-requires : tie.Need-unfiled-requires
 unfiled-requires c κs = search rules
 
-returns : tie.Need-returns
+returns : tie.Need-returns-then-mask-eq0
 returns c =
-    let a = c.before.before.before.before.args in
-    filed-refused a.store.now a.copy.now a.v c.before.before.before.before.requires.0 a.stamp a.mask a.n Range c.unfiled.ensures (commit-none a.store.now a.copy.now a.stamp a.mask a.n c.before.if1.true)
+    let a = c.args in
+    filed-refused a.store.now a.copy.now a.v c.requires.0 a.stamp a.mask a.n Range c.unfiled.ensures (commit-none a.store.now a.copy.now a.stamp a.mask a.n c.if-mask-eq0.true)
 
-any-stale-requires : tie.Need-any-stale-requires
+any-stale-requires : tie.Need-any_stale-requires
 any-stale-requires c κs = search rules
 
-unfiled-requires-2 : tie.Need-unfiled-requires-2
+unfiled-requires-2 : tie.Need-unfiled-requires-then-any_stale
 unfiled-requires-2 c κs = search rules
 
-same_length : tie.Need-same-length
+same_length : tie.Need-shape_of-store-then-any_stale
 same_length c = search rules
 
-same-length-2 : tie.Need-same-length-2
+same-length-2 : tie.Need-shape_of-copy-then-any_stale
 same-length-2 c = search rules
 
-returns-2 : tie.Need-returns-2
+returns-2 : tie.Need-returns-then-any_stale
 returns-2 c =
-    let a = c.before.before.before.before.before.before.before.before.args in
-    filed-refused a.store.now a.copy.now a.v c.before.before.before.before.before.before.before.before.requires.0 a.stamp a.mask a.n OutOfDate c.unfiled2.ensures
-    (commit-stale a.store.now a.copy.now a.stamp a.mask a.n c.before.before.before.before.before.if1.false c.before.before.any-stale.ensures c.before.if2.true)
+    let a = c.args in
+    filed-refused a.store.now a.copy.now a.v c.requires.0 a.stamp a.mask a.n OutOfDate c.unfiled-then-any_stale.ensures
+    (commit-stale a.store.now a.copy.now a.stamp a.mask a.n c.if-mask-eq0.false c.any_stale.ensures c.if-any_stale.true)
 
-note-flags-requires : tie.Need-note-flags-requires
+note-flags-requires : tie.Need-note_flags-flags-requires
 note-flags-requires c κs = search rules
 
-add-next : tie.Need-overflow-add-next
-add-next c = let a = c.before.before.before.before.before.before.before.before.before.before.before.before.args in omega (arith, next_small a.store.now a.copy.now a.v c.before.before.before.before.before.before.before.before.before.before.before.before.requires.0)
+add-next : tie.Need-overflow_add-next
+add-next c = let a = c.args in omega (arith, next_small a.store.now a.copy.now a.v c.requires.0)
 
-cast-seat : tie.Need-overflow-cast-seat
-cast-seat c = let a = c.before.before.before.before.before.before.before.before.before.before.before.before.before.args in omega (arith, seat-small a.store.now a.copy.now a.v c.before.before.before.before.before.before.before.before.before.before.before.before.before.requires.0)
+cast-seat : tie.Need-overflow_cast-seat
+cast-seat c = let a = c.args in omega (arith, seat-small a.store.now a.copy.now a.v c.requires.0)
 
-slice-aggregate-commit-chosen : tie.Need-slice-aggregate-commit-chosen
+slice-aggregate-commit-chosen : tie.Need-slice_bounds-commit_chosen-end
 slice-aggregate-commit-chosen c = search rules
 
-slice-aggregate-commit-chosen-2 : tie.Need-slice-aggregate-commit-chosen-2
+slice-aggregate-commit-chosen-2 : tie.Need-slice_bounds-commit_chosen-end-2
 slice-aggregate-commit-chosen-2 c = search rules
 
-commit-chosen-requires : tie.Need-commit-chosen-requires
-commit-chosen-requires c κs = let a = c.before.before.before.before.before.before.before.before.before.before.before.before.before.before.before.before.before.args in may_commit a.store.now a.copy.now a.v c.before.before.before.before.before.before.before.before.before.before.before.before.before.before.before.before.before.requires.0 c.before.before.before.before.before.before.before.before.before.before.before.before.before.before.before.before.before.requires.1 c.before.before.before.before.before.before.before.note-flags.ensures
+commit-chosen-requires : tie.Need-commit_chosen-o-requires
+commit-chosen-requires c κs = let a = c.args in may_commit a.store.now a.copy.now a.v c.requires.0 c.requires.1 c.note_flags-flags.ensures
 
-enum_told : tie.Need-enum-told
+enum_told : tie.Need-enum_told-1
 enum_told c = search rules
 
-unfiled-requires-3 : tie.Need-unfiled-requires-3
+unfiled-requires-3 : tie.Need-unfiled-requires-in-Nothing
 unfiled-requires-3 c κs = search rules
 
-enum-told-2 : tie.Need-enum-told-2
+enum-told-2 : tie.Need-enum_told-in-NoRoom
 enum-told-2 c = search rules
 
-unfiled-requires-4 : tie.Need-unfiled-requires-4
+unfiled-requires-4 : tie.Need-unfiled-requires-in-NoRoom
 unfiled-requires-4 c κs = search rules
 
-enum-told-3 : tie.Need-enum-told-3
+enum-told-3 : tie.Need-enum_told-in-Stopped
 enum-told-3 c = search rules
 
-enum-known-o : tie.Need-enum-known-o
+enum-known-o : tie.Need-enum_known-o
 enum-known-o c = search rules
 
-cast-revision : tie.Need-overflow-cast-revision
-cast-revision c = let a = c.before.before.before.before.before.before.before.before.before.before.before.before.before.before.before.before.before.before.before.before.before.before.before.args in omega (arith, next_small a.store.now a.copy.now a.v c.before.before.before.before.before.before.before.before.before.before.before.before.before.before.before.before.before.before.before.before.before.before.before.requires.0)
+cast-revision : tie.Need-overflow_cast-revision
+cast-revision c = let a = c.args in omega (arith, next_small a.store.now a.copy.now a.v c.requires.0)
 
-slice-aggregate-settle : tie.Need-slice-aggregate-settle
+slice-aggregate-settle : tie.Need-slice_bounds-settle-end
 slice-aggregate-settle c = search rules
 
 settle-requires : tie.Need-settle-requires
-settle-requires c κs = let a = c.before.before.before.before.before.before.before.before.before.before.before.before.before.before.before.before.before.before.before.before.before.before.before.before.before.args in (may_settle a.store.now a.copy.now a.v c.before.before.before.before.before.before.before.before.before.before.before.before.before.before.before.before.before.before.before.before.before.before.before.before.before.requires.0, c.before.before.before.before.before.before.before.before.before.before.before.before.before.before.before.note-flags.ensures.flags)
+settle-requires c κs = let a = c.args in (may_settle a.store.now a.copy.now a.v c.requires.0, c.note_flags-flags.ensures.flags)
 
-same-length-3 : tie.Need-same-length-3
+same-length-3 : tie.Need-shape_of-store-in-Nothing
 same-length-3 c = search rules
 
-same-length-4 : tie.Need-same-length-4
+same-length-4 : tie.Need-shape_of-copy-in-Nothing
 same-length-4 c = search rules
 
-returns-3 : tie.Need-returns-3
+returns-3 : tie.Need-returns-in-Nothing
 returns-3 c =
-    let a = c.before.before.before.before.before.before.before.before.before.before.before.before.before.before.before.before.before.before.before.before.before.before.before.args in
-    filed-refused a.store.now a.copy.now a.v c.before.before.before.before.before.before.before.before.before.before.before.before.before.before.before.before.before.before.before.before.before.before.before.requires.0 a.stamp a.mask a.n NothingPending c.unfiled3.ensures
-    (commit-nothing a.store.now a.copy.now a.stamp a.mask a.n c.before.before.before.before.before.before.before.before.before.before.before.before.before.before.before.before.before.before.before.before.if1.false c.before.enum_told.given.1 c.before.before.before.before.before.commit-chosen.ensures)
+    let a = c.args in
+    filed-refused a.store.now a.copy.now a.v c.requires.0 a.stamp a.mask a.n NothingPending c.unfiled-in-Nothing.ensures
+    (commit-nothing a.store.now a.copy.now a.stamp a.mask a.n c.if-mask-eq0.false c.in-Nothing.is c.commit_chosen-o.ensures)
 
-same-length-5 : tie.Need-same-length-5
+same-length-5 : tie.Need-shape_of-store-in-NoRoom
 same-length-5 c = search rules
 
-same-length-6 : tie.Need-same-length-6
+same-length-6 : tie.Need-shape_of-copy-in-NoRoom
 same-length-6 c = search rules
 
-returns-4 : tie.Need-returns-4
+returns-4 : tie.Need-returns-in-NoRoom
 returns-4 c =
-    let a = c.before.before.before.before.before.before.before.before.before.before.before.before.before.before.before.before.before.before.before.before.before.before.before.args in
-    filed-refused a.store.now a.copy.now a.v c.before.before.before.before.before.before.before.before.before.before.before.before.before.before.before.before.before.before.before.before.before.before.before.requires.0 a.stamp a.mask a.n NoRoom c.unfiled4.ensures
-    (commit-no_room a.store.now a.copy.now a.stamp a.mask a.n c.before.before.before.before.before.before.before.before.before.before.before.before.before.before.before.before.before.before.before.before.if1.false c.before.before.before.before.before.before.before.before.before.before.before.before.before.before.before.before.before.any-stale.ensures c.before.before.before.before.before.before.before.before.before.before.before.before.before.before.before.before.if2.false c.before.before.before.before.before.commit-chosen.ensures c.before.enum-told2.given.1)
+    let a = c.args in
+    filed-refused a.store.now a.copy.now a.v c.requires.0 a.stamp a.mask a.n NoRoom c.unfiled-in-NoRoom.ensures
+    (commit-no_room a.store.now a.copy.now a.stamp a.mask a.n c.if-mask-eq0.false c.any_stale.ensures c.if-any_stale.false c.commit_chosen-o.ensures c.in-NoRoom.is)
 
-same-length-7 : tie.Need-same-length-7
+same-length-7 : tie.Need-shape_of-store-in-Stopped
 same-length-7 c = search rules
 
-same-length-8 : tie.Need-same-length-8
+same-length-8 : tie.Need-shape_of-copy-in-Stopped
 same-length-8 c = search rules
 
-returns-5 : tie.Need-returns-5
+returns-5 : tie.Need-returns-in-Stopped
 returns-5 c =
-    let s = c.before.before.before.before.before.before.before.before.before.before.before.before.before.before.before.before.before.before.before.before.before.before in
+    let s = c in
     let a = s.args in
     filed-stopped a.store.now a.copy.now a.v s.requires.0 a.stamp a.mask a.n s.requires.1 (omega (arith, s.ranges.stamp))
-    (commit-stopped a.store.now a.copy.now a.stamp a.mask a.n c.before.before.before.before.before.before.before.before.before.before.before.before.before.before.before.before.before.before.before.if1.false c.before.before.before.before.before.before.before.before.before.before.before.before.before.before.before.before.any-stale.ensures c.before.before.before.before.before.before.before.before.before.before.before.before.before.before.before.if2.false c.before.before.before.before.commit-chosen.ensures c.enum-told3.given.1)
+    (commit-stopped a.store.now a.copy.now a.stamp a.mask a.n c.if-mask-eq0.false c.any_stale.ensures c.if-any_stale.false c.commit_chosen-o.ensures c.in-Stopped.is)
 
-same-length-9 : tie.Need-same-length-9
+same-length-9 : tie.Need-shape_of-store-in-Done
 same-length-9 c = search rules
 
-same-length-10 : tie.Need-same-length-10
+same-length-10 : tie.Need-shape_of-copy-in-Done
 same-length-10 c = search rules
 
-returns-6 : tie.Need-returns-6
+returns-6 : tie.Need-returns-in-Done
 returns-6 c =
-    let a = c.before.before.before.before.before.before.before.before.before.before.before.before.before.before.before.before.before.before.before.before.before.before.before.before.before.before.before.before.args in
-    let P = c.before.before.before.before.before.before.before.before.before.before.before.before.before.before.before.before.before.before.before.before.before.before.before.before.before.before.before.before.requires in
-    filed-done a.store.now a.copy.now a.v P.0 a.stamp a.mask a.n P.1 (omega (arith, c.before.before.before.before.before.before.before.before.before.before.before.before.before.before.before.before.before.before.before.before.before.before.before.before.before.before.before.before.ranges.stamp)) c.before.before.before.before.before.before.before.before.before.before.commit-chosen.ensures c.before.before.before.before.before.before.o.given.1
-    (commit-done a.store.now a.copy.now a.stamp a.mask a.n c.before.before.before.before.before.before.before.before.before.before.before.before.before.before.before.before.before.before.before.before.before.before.before.before.before.if1.false c.before.before.before.before.before.before.before.before.before.before.before.before.before.before.before.before.before.before.before.before.before.before.any-stale.ensures c.before.before.before.before.before.before.before.before.before.before.before.before.before.before.before.before.before.before.before.before.before.if2.false c.before.before.before.before.before.before.before.before.before.before.commit-chosen.ensures c.before.before.before.before.before.before.o.given.1
-    (next_is a.store.now a.copy.now a.v P.0) (left-committed a.store.now a.copy.now a.v P.0 c.before.before.before.before.before.before.before.before.before.before.before.before.before.before.before.before.before.before.note-flags.ensures c.before.before.settle.ensures))
+    let a = c.args in
+    let P = c.requires in
+    filed-done a.store.now a.copy.now a.v P.0 a.stamp a.mask a.n P.1 (omega (arith, c.ranges.stamp)) c.commit_chosen-o.ensures c.in-Done.is
+    (commit-done a.store.now a.copy.now a.stamp a.mask a.n c.if-mask-eq0.false c.any_stale.ensures c.if-any_stale.false c.commit_chosen-o.ensures c.in-Done.is
+    (next_is a.store.now a.copy.now a.v P.0) (left-committed a.store.now a.copy.now a.v P.0 c.note_flags-flags.ensures c.settle.ensures))
 
-pub commit-spec : {M : Type 1} → statement M
-commit-spec =
+pub commit_spec : {M : Type 1} → statement M
+commit_spec =
     tie.close
     (tie.spec
     unfiled-requires

@@ -5,32 +5,32 @@ use Rattle.filing.proofs.Settling.{settle_leaves, settle_put, settle_stays}
 use Rattle.filing.proofs.settle_one.Statement.{statement}
 use Rattle.filing.proofs.settle_one.Tie as tie
 
-entry-at-requires : tie.Need-entry-at-requires
+entry-at-requires : tie.Need-entry_at-e-requires
 entry-at-requires c κs = search rules
 
 stays-requires : tie.Need-stays-requires
 stays-requires c κs = search rules
 
-same_length : tie.Need-same-length
+same_length : tie.Need-shape_of-copy-then-stays
 same_length c = search rules
 
-returns : tie.Need-returns
-returns c = let k = c.before.before.before.before.before in settle_stays k.requires.0 k.requires.1 k.args.flag c.before.before.entry_at.ensures c.before.stays.ensures c.if1.true
+returns : tie.Need-returns-then-stays
+returns c = let k = c in settle_stays k.requires.0 k.requires.1 k.args.flag c.entry_at-e.ensures c.stays.ensures c.if-stays.true
 
-settled-state-requires : tie.Need-settled-state-requires
+settled-state-requires : tie.Need-settled_state-state-requires
 settled-state-requires c κs = search rules
 
-set-entry-requires : tie.Need-set-entry-requires
-set-entry-requires c κs = let k = c.before.before.before.before.before.before.before in settle_put k.requires.0 k.requires.1 k.args.flag c.before.before.before.before.entry_at.ensures c.before.before.before.stays.ensures c.before.before.if1.false c.before.settled-state.ensures
+set-entry-requires : tie.Need-set_entry-requires
+set-entry-requires c κs = let k = c in settle_put k.requires.0 k.requires.1 k.args.flag c.entry_at-e.ensures c.stays.ensures c.if-stays.false c.settled_state-state.ensures
 
-same-length-2 : tie.Need-same-length-2
+same-length-2 : tie.Need-shape_of-copy
 same-length-2 c = search rules
 
-returns-2 : tie.Need-returns-2
-returns-2 c = let k = c.before.before.before.before.before.before.before.before.before.before in settle_leaves k.requires.0 k.requires.1 k.args.flag c.before.before.before.before.before.before.before.entry_at.ensures c.before.before.before.before.before.before.stays.ensures c.before.before.before.before.before.if1.false c.before.before.before.before.settled-state.ensures c.before.before.set-entry.ensures
+returns-2 : tie.Need-returns
+returns-2 c = let k = c in settle_leaves k.requires.0 k.requires.1 k.args.flag c.entry_at-e.ensures c.stays.ensures c.if-stays.false c.settled_state-state.ensures c.set_entry.ensures
 
-pub settle-one-spec : {M : Type 1} → statement M
-settle-one-spec =
+pub settle_one_spec : {M : Type 1} → statement M
+settle_one_spec =
     tie.close
     (tie.spec
     entry-at-requires

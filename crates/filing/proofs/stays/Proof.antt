@@ -6,38 +6,38 @@ use Rattle.filing.proofs.stays.Statement.{statement}
 use Rattle.filing.specs.Inner.{stays_as}
 use Rattle.filing.proofs.stays.Tie as tie
 
-enum_told : tie.Need-enum-told
+enum_told : tie.Need-enum_told-1
 enum_told c = search rules
 
-enum-told-2 : tie.Need-enum-told-2
+enum-told-2 : tie.Need-enum_told-in-Normal
 enum-told-2 c = search rules
 
-enum-told-3 : tie.Need-enum-told-3
+enum-told-3 : tie.Need-enum_told-in-Added
 enum-told-3 c = search rules
 
-enum-told-4 : tie.Need-enum-told-4
+enum-told-4 : tie.Need-enum_told-in-Deleted
 enum-told-4 c = search rules
 
-enum-told-5 : tie.Need-enum-told-5
+enum-told-5 : tie.Need-enum_told-in-Copied
 enum-told-5 c = search rules
 
-returns : tie.Need-returns
+returns : tie.Need-returns-in-Empty
 returns c = search rules
 
-returns-2 : tie.Need-returns-2
-returns-2 c = sym (ap (stays_as c.before.before.args.flag) c.enum-told2.given.1)
+returns-2 : tie.Need-returns-in-Normal
+returns-2 c = sym (ap (stays_as c.args.flag) c.in-Normal.is)
 
-returns-3 : tie.Need-returns-3
+returns-3 : tie.Need-returns-in-Added
 returns-3 c = search rules
 
-returns-4 : tie.Need-returns-4
+returns-4 : tie.Need-returns-in-Deleted
 returns-4 c = search rules
 
-returns-5 : tie.Need-returns-5
+returns-5 : tie.Need-returns-in-Copied
 returns-5 c = search rules
 
-pub stays-spec : {M : Type 1} → statement M
-stays-spec =
+pub stays_spec : {M : Type 1} → statement M
+stays_spec =
     tie.close
     (tie.spec
     enum_told

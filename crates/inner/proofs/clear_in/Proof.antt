@@ -5,25 +5,25 @@ use borrow.Author.Rules.{rules}
 use Rattle.inner.proofs.clear_in.Statement.{statement}
 use Rattle.inner.proofs.clear_in.Tie as tie
 
-count-requires : tie.Need-count-requires
-count-requires c κs = let k = c.before.before in open_taken k.args.store.now k.args.h k.requires
+count-requires : tie.Need-count-count-requires
+count-requires c κs = let k = c in open_taken k.args.store.now k.args.h k.requires
 
 clear-requires : tie.Need-clear-requires
-clear-requires c κs = let k = c.before.before.before.before in may_clear k.args.store.now k.args.h k.requires c.before.count.result c.before.count.ensures
+clear-requires c κs = let k = c in may_clear k.args.store.now k.args.h k.requires c.count-count.result c.count-count.ensures
 
-returns : tie.Need-returns
+returns : tie.Need-returns-then-clear
 returns c =
-    let k = c.before.before.before.before.before.before.before.before in
-    let t = c.before.before.before.before.before.count in
-    let w = c.before.before.before.clear in
-    clear-all k.args.store.now k.args.h k.requires t.result t.ensures k.args.n w.ensures.0 w.ensures.1 c.if1.true
+    let k = c in
+    let t = c.count-count in
+    let w = c.clear in
+    clear-all k.args.store.now k.args.h k.requires t.result t.ensures k.args.n w.ensures.0 w.ensures.1 c.if-clear.true
 
-returns-2 : tie.Need-returns-2
+returns-2 : tie.Need-returns
 returns-2 c =
-    let k = c.before.before.before.before.before.before.before.before in
-    let t = c.before.before.before.before.before.count in
-    let w = c.before.before.before.clear in
-    clear-stopped k.args.store.now k.args.h k.requires t.result t.ensures k.args.n w.ensures.0 w.ensures.1 c.if1.false
+    let k = c in
+    let t = c.count-count in
+    let w = c.clear in
+    clear-stopped k.args.store.now k.args.h k.requires t.result t.ensures k.args.n w.ensures.0 w.ensures.1 c.if-clear.false
 
-pub clear-in-spec : {M : Type 1} → statement M
-clear-in-spec = tie.close (tie.spec count-requires clear-requires (λ c. search rules) returns (λ c. search rules) returns-2)
+pub clear_in_spec : {M : Type 1} → statement M
+clear_in_spec = tie.close (tie.spec count-requires clear-requires (λ c. search rules) returns (λ c. search rules) returns-2)

@@ -6,22 +6,22 @@ use Rattle.inner.proofs.Releasing.{open_laid, panel_at, panel_late}
 use Rattle.inner.proofs.panel_in.Statement.{statement}
 use Rattle.inner.proofs.panel_in.Tie as tie
 
-returns : tie.Need-returns
-returns c = let s = c.before.before.before in record { is = panel_late s.args.store.now s.args.h s.requires s.args.revision s.args.sheet c.if1.true; inside = tt }
+returns : tie.Need-returns-then-h-revision
+returns c = let s = c in record { is = panel_late s.args.store.now s.args.h s.requires s.args.revision s.args.sheet c.if-h-revision.true; inside = tt }
 
-greatest-requires : tie.Need-greatest-requires
-greatest-requires c κs = let s = c.before.before.before in open_laid s.args.store.now s.args.h s.requires
+greatest-requires : tie.Need-greatest-released-requires
+greatest-requires c κs = let s = c in open_laid s.args.store.now s.args.h s.requires
 
-place-in-requires : tie.Need-place-in-requires
+place-in-requires : tie.Need-place_in-requires
 place-in-requires c κs = search rules
 
-returns-2 : tie.Need-returns-2
+returns-2 : tie.Need-returns
 returns-2 c =
-    let s = c.before.before.before.before.before in
+    let s = c in
     record {
-      is = c.IsPlace-in.ensures.is ∙ panel_at s.args.store.now s.args.h s.requires s.args.revision s.args.sheet c.before.before.if1.false c.before.greatest.ensures;
-      inside = c.IsPlace-in.ensures.inside;
+      is = c.place_in.ensures.is ∙ panel_at s.args.store.now s.args.h s.requires s.args.revision s.args.sheet c.if-h-revision.false c.greatest-released.ensures;
+      inside = c.place_in.ensures.inside;
     }
 
-pub panel-in-spec : {M : Type 1} → statement M
-panel-in-spec = tie.close (tie.spec returns greatest-requires place-in-requires returns-2)
+pub panel_in_spec : {M : Type 1} → statement M
+panel_in_spec = tie.close (tie.spec returns greatest-requires place-in-requires returns-2)

@@ -7,79 +7,79 @@ use Rattle.inner.proofs.release_in.Statement.{statement}
 use Rattle.inner.proofs.release_in.Tie as tie
 
 has-requires : tie.Need-has-requires
-has-requires c κs = let s = c.before.before in open_taken s.args.store.now s.args.h s.requires
+has-requires c κs = let s = c in open_taken s.args.store.now s.args.h s.requires
 
 unmoved-requires : tie.Need-unmoved-requires
 unmoved-requires c κs = search rules
 
-same_length : tie.Need-same-length
+same_length : tie.Need-shape_of-store-then-has
 same_length c = search rules
 
-returns : tie.Need-returns
-returns c = let s = c.before.before.before.before.before in has_tail s.args.store.now s.args.h s.requires s.args.revision s.args.seat s.args.stamp c.before.before.has.ensures c.before.if1.true c.unmoved.ensures
+returns : tie.Need-returns-then-has
+returns c = let s = c in has_tail s.args.store.now s.args.h s.requires s.args.revision s.args.seat s.args.stamp c.has.ensures c.if-has.true c.unmoved.ensures
 
 unreleasable-requires : tie.Need-unreleasable-requires
 unreleasable-requires c κs = search rules
 
-unmoved-requires-2 : tie.Need-unmoved-requires-2
+unmoved-requires-2 : tie.Need-unmoved-requires-then-unreleasable
 unmoved-requires-2 c κs = search rules
 
-same-length-2 : tie.Need-same-length-2
+same-length-2 : tie.Need-shape_of-store-then-unreleasable
 same-length-2 c = search rules
 
-returns-2 : tie.Need-returns-2
+returns-2 : tie.Need-returns-then-unreleasable
 returns-2 c =
-    let s = c.before.before.before.before.before.before.before in
-    out_of_range s.args.store.now s.args.h s.requires s.args.revision s.args.seat s.args.stamp c.before.before.before.before.has.ensures c.before.before.before.if1.false c.before.before.unreleasable.ensures c.before.if2.true c.unmoved2.ensures
+    let s = c in
+    out_of_range s.args.store.now s.args.h s.requires s.args.revision s.args.seat s.args.stamp c.has.ensures c.if-has.false c.unreleasable.ensures c.if-unreleasable.true c.unmoved-then-unreleasable.ensures
 
-is-released-requires : tie.Need-is-released-requires
-is-released-requires c κs = let s = c.before.before.before.before.before.before.before in open_laid s.args.store.now s.args.h s.requires
+is-released-requires : tie.Need-is_released-requires
+is-released-requires c κs = let s = c in open_laid s.args.store.now s.args.h s.requires
 
-unmoved-requires-3 : tie.Need-unmoved-requires-3
+unmoved-requires-3 : tie.Need-unmoved-requires-then-is_released
 unmoved-requires-3 c κs = search rules
 
-same-length-3 : tie.Need-same-length-3
+same-length-3 : tie.Need-shape_of-store-then-is_released
 same-length-3 c = search rules
 
-returns-3 : tie.Need-returns-3
+returns-3 : tie.Need-returns-then-is_released
 returns-3 c =
-    let s = c.before.before.before.before.before.before.before.before.before.before in
-    released-before s.args.store.now s.args.h s.requires s.args.revision s.args.seat s.args.stamp c.before.before.before.before.before.before.before.has.ensures c.before.before.before.before.before.before.if1.false c.before.before.before.before.before.unreleasable.ensures c.before.before.before.before.if2.false c.before.before.is-released.ensures c.before.if3.true c.unmoved3.ensures
+    let s = c in
+    released-before s.args.store.now s.args.h s.requires s.args.revision s.args.seat s.args.stamp c.has.ensures c.if-has.false c.unreleasable.ensures c.if-unreleasable.false c.is_released.ensures c.if-is_released.true c.unmoved-then-is_released.ensures
 
-unmoved-requires-4 : tie.Need-unmoved-requires-4
+unmoved-requires-4 : tie.Need-unmoved-requires-then-store-h
 unmoved-requires-4 c κs = search rules
 
-same-length-4 : tie.Need-same-length-4
+same-length-4 : tie.Need-shape_of-store-then-store-h
 same-length-4 c = search rules
 
-returns-4 : tie.Need-returns-4
+returns-4 : tie.Need-returns-then-store-h
 returns-4 c =
-    let s = c.before.before.before.before.before.before.before.before.before.before.before.before in
-    no_block s.args.store.now s.args.h s.requires s.args.revision s.args.seat s.args.stamp c.before.before.before.before.before.before.before.before.before.has.ensures c.before.before.before.before.before.before.before.before.if1.false c.before.before.before.before.before.before.before.unreleasable.ensures c.before.before.before.before.before.before.if2.false c.before.before.before.before.is-released.ensures c.before.before.before.if3.false c.before.if4.true c.unmoved4.ensures
+    let s = c in
+    no_block s.args.store.now s.args.h s.requires s.args.revision s.args.seat s.args.stamp c.has.ensures c.if-has.false c.unreleasable.ensures c.if-unreleasable.false c.is_released.ensures c.if-is_released.false c.if-store-h.true c.unmoved-then-store-h.ensures
 
-cast-put-release : tie.Need-overflow-cast-put-release
-cast-put-release c = let s = c.before.before.before.before.before.before.before.before.before.before.before.before in let small = seat-small s.args.store.now s.args.h s.requires s.args.revision s.args.seat s.args.stamp c.before.before.before.before.before.before.before.before.before.has.ensures c.before.before.before.before.before.before.before.before.if1.false c.before.before.before.before.before.before.before.unreleasable.ensures c.before.before.before.before.before.before.if2.false c.before.before.before.before.is-released.ensures c.before.before.before.if3.false c.before.if4.false in search rules
+cast-put-release : tie.Need-overflow_cast-seat
+cast-put-release c = let s = c in let small = seat-small s.args.store.now s.args.h s.requires s.args.revision s.args.seat s.args.stamp c.has.ensures c.if-has.false c.unreleasable.ensures c.if-unreleasable.false c.is_released.ensures c.if-is_released.false c.if-store-h.false in search rules
 
-put-release-requires : tie.Need-put-release-requires
+put-release-requires : tie.Need-put_release-requires
 put-release-requires c κs =
-    let s = c.before.before.before.before.before.before.before.before.before.before.before.before in (
-      room s.args.store.now s.args.h s.requires s.args.revision s.args.seat s.args.stamp c.before.before.before.before.before.before.before.before.before.has.ensures c.before.before.before.before.before.before.before.before.if1.false c.before.before.before.before.before.before.before.unreleasable.ensures c.before.before.before.before.before.before.if2.false c.before.before.before.before.is-released.ensures c.before.before.before.if3.false c.before.if4.false,
-      revision-small s.args.store.now s.args.h s.requires s.args.revision s.args.seat s.args.stamp c.before.before.before.before.before.before.before.before.before.has.ensures c.before.before.before.before.before.before.before.before.if1.false c.before.before.before.before.before.before.before.unreleasable.ensures c.before.before.before.before.before.before.if2.false c.before.before.before.before.is-released.ensures c.before.before.before.if3.false c.before.if4.false,
+    let s = c in (
+      room s.args.store.now s.args.h s.requires s.args.revision s.args.seat s.args.stamp c.has.ensures c.if-has.false c.unreleasable.ensures c.if-unreleasable.false c.is_released.ensures c.if-is_released.false c.if-store-h.false,
+      revision-small s.args.store.now s.args.h s.requires s.args.revision s.args.seat s.args.stamp c.has.ensures c.if-has.false c.unreleasable.ensures c.if-unreleasable.false c.is_released.ensures c.if-is_released.false c.if-store-h.false,
     )
 
-add-used : tie.Need-overflow-add-used
+add-used : tie.Need-overflow_add-used
 add-used c = search rules
 
-same-length-5 : tie.Need-same-length-5
+same-length-5 : tie.Need-shape_of-store
 same-length-5 c = search rules
 
-returns-5 : tie.Need-returns-5
+returns-5 : tie.Need-returns
 returns-5 c =
-    let s = c.before.before.before.before.before.before.before.before.before.before.before.before.before.before.before.before in
-    made s.args.store.now s.args.h s.requires s.args.revision s.args.seat s.args.stamp c.before.before.before.before.before.before.before.before.before.before.before.before.before.has.ensures c.before.before.before.before.before.before.before.before.before.before.before.before.if1.false c.before.before.before.before.before.before.before.before.before.before.before.unreleasable.ensures c.before.before.before.before.before.before.before.before.before.before.if2.false c.before.before.before.before.before.before.before.before.is-released.ensures c.before.before.before.before.before.before.before.if3.false c.before.before.before.before.before.if4.false (search rules) c.before.before.before.put-release.ensures
+    let s = c in
+    made s.args.store.now s.args.h s.requires s.args.revision s.args.seat s.args.stamp c.has.ensures c.if-has.false c.unreleasable.ensures c.if-unreleasable.false c.is_released.ensures c.if-is_released.false c.if-store-h.false (search rules) c.put_release.ensures
 
-pub release-in-spec : {M : Type 1} → statement M
-release-in-spec =
+pub release_in_spec : {M : Type 1} → statement M
+release_in_spec =
     tie.close
     (tie.spec
     has-requires

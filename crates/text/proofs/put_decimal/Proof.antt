@@ -31,9 +31,9 @@ returns : tie.Need-returns
 returns c =
     let d = c.decimal-k in
     let a = c.args in
-    let f = d.ensures.len in
-    let e : take d.result d.new.out ≡ decimal_in 10 a.n = d.ensures.digits ∙ digits_decimal d.result 10 a.n f.0 (few d.result a.n (omega arith) f.2) f.1 f.2 in
-    (d.ensures.in_bounds.1 ∙ ap length e, c.put_bytes.ensures ∙ ap (λ (t : List ℕ). written a.at t a.out.now) e)
+    let f = d.ensures.1.0 in
+    let e : take d.result d.new.out ≡ decimal_in 10 a.n = d.ensures.1.1.0 ∙ digits_decimal d.result 10 a.n f.0 (few d.result a.n (omega arith) f.2) f.1 f.2 in
+    (d.ensures.0.1 ∙ ap length e, c.put_bytes.ensures ∙ ap (λ (t : List ℕ). written a.at t a.out.now) e)
 
 pub put_decimal_spec : {M : Type 1} → statement M
 put_decimal_spec =

@@ -14,50 +14,50 @@ use Rattle.updates.proofs.Rounds.{conflict_here, conflict-next, conflict-none}
 use Rattle.updates.proofs.any_conflict.Statement.{statement}
 use Rattle.updates.proofs.any_conflict.Tie as tie
 
-abbrev invariant-loop : tie.invariant-loop
+abbrev invariant-loop : tie.invariant-loop-m
 invariant-loop store copy v mask r m₀ m = (m < 2 ^ 32) × (any_chosen (conflict (store_history store) r) m (entries_of copy) ≡ some_conflict (side_in store copy) mask r)
 
-abbrev decreases-loop : tie.decreases-loop
+abbrev decreases-loop : tie.decreases-loop-m
 decreases-loop store copy v mask r m₀ m = m
 
-low : (c : tie.In-loop invariant-loop decreases-loop) → (count_trailing_zeros 32 c.before.loop.m < 32) × Lowest c.before.loop.m (count_trailing_zeros 32 c.before.loop.m)
-low c = lowest 32 c.before.loop.m (omega arith) c.before.loop.invariant.0
+low : (c : tie.In-loop-m invariant-loop decreases-loop) → (count_trailing_zeros 32 c.loop-m.m < 32) × Lowest c.loop-m.m (count_trailing_zeros 32 c.loop-m.m)
+low c = lowest 32 c.loop-m.m (omega arith) c.loop-m.invariant.0
 
-loop-holds : tie.Need-loop-init invariant-loop decreases-loop
+loop-holds : tie.Need-loop-m-init invariant-loop decreases-loop
 loop-holds c = (omega arith, refl)
 
-cast-k : tie.Need-overflow-cast-k invariant-loop decreases-loop
+cast-k : tie.Need-overflow_cast-k invariant-loop decreases-loop
 cast-k c = omega (arith, (low c).0)
 
 conflicts-requires : tie.Need-conflicts-requires invariant-loop decreases-loop
-conflicts-requires c κs = (c.before.before.before.before.requires.0, (low c).0, c.before.before.before.before.requires.1)
+conflicts-requires c κs = (c.requires.0, (low c).0, c.requires.1)
 
-returns : tie.Need-returns invariant-loop decreases-loop
+returns : tie.Need-returns-then-conflicts invariant-loop decreases-loop
 returns c =
     let l = low c.before.before in
-    let k = c.before.before.before.before.before.before in
-    conflict_here k.requires.0 k.args.r l.1 l.0 c.before.conflicts.ensures c.if1.true ∙ c.before.before.before.loop.invariant.1
+    let k = c in
+    conflict_here k.requires.0 k.args.r l.1 l.0 c.conflicts.ensures c.if-conflicts.true ∙ c.loop-m.invariant.1
 
-sub-m : tie.Need-overflow-sub-m invariant-loop decreases-loop
+sub-m : tie.Need-overflow_sub-m invariant-loop decreases-loop
 sub-m c = omega arith
 
-loop-less : tie.Need-loop-smaller invariant-loop decreases-loop
+loop-less : tie.Need-loop-m-smaller invariant-loop decreases-loop
 loop-less c = let l = low c.before.before in rw (and_cleared l.1) (cleared_lt l.1)
 
-loop-again : tie.Need-loop-preserved invariant-loop decreases-loop
+loop-again : tie.Need-loop-m-preserved invariant-loop decreases-loop
 loop-again c =
     let l = low c.before.before in
-    let k = c.before.before.before.before.before.before in
+    let k = c in
     rw (and_cleared l.1)
-    (omega (arith, cleared_lt l.1, c.before.before.before.loop.invariant.0), conflict-next k.requires.0 k.args.r l.1 l.0 c.before.conflicts.ensures c.if1.false ∙ c.before.before.before.loop.invariant.1)
+    (omega (arith, cleared_lt l.1, c.loop-m.invariant.0), conflict-next k.requires.0 k.args.r l.1 l.0 c.conflicts.ensures c.if-conflicts.false ∙ c.loop-m.invariant.1)
 
-returns-2 : tie.Need-returns-2 invariant-loop decreases-loop
+returns-2 : tie.Need-returns invariant-loop decreases-loop
 returns-2 c =
-    let k = c.before.before.before.before in
-    conflict-none k.requires.0 k.args.r (omega arith) ∙ c.before.loop.invariant.1
+    let k = c in
+    conflict-none k.requires.0 k.args.r (omega arith) ∙ c.loop-m.invariant.1
 
-pub any-conflict-spec : {M : Type 1} → statement M
-any-conflict-spec =
+pub any_conflict_spec : {M : Type 1} → statement M
+any_conflict_spec =
     tie.close
     (tie.spec
     invariant-loop

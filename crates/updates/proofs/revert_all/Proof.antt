@@ -13,44 +13,44 @@ use Rattle.updates.proofs.Rounds.{Doing, doing_end, doing-length, doing-next}
 use Rattle.updates.proofs.revert_all.Statement.{statement}
 use Rattle.updates.proofs.revert_all.Tie as tie
 
-abbrev invariant-loop : tie.invariant-loop
+abbrev invariant-loop : tie.invariant-loop-m
 invariant-loop store copy₀ v mask m₀ copy m = Doing store v (reverted_of (store_history store)) mask copy₀ copy m
 
-abbrev decreases-loop : tie.decreases-loop
+abbrev decreases-loop : tie.decreases-loop-m
 decreases-loop store copy₀ v mask m₀ copy m = m
 
-low : (c : tie.In-loop invariant-loop decreases-loop) → (count_trailing_zeros 32 c.before.loop.m < 32) × Lowest c.before.loop.m (count_trailing_zeros 32 c.before.loop.m)
-low c = lowest 32 c.before.loop.m (omega arith) c.before.loop.invariant.small
+low : (c : tie.In-loop-m invariant-loop decreases-loop) → (count_trailing_zeros 32 c.loop-m.m < 32) × Lowest c.loop-m.m (count_trailing_zeros 32 c.loop-m.m)
+low c = lowest 32 c.loop-m.m (omega arith) c.loop-m.invariant.small
 
-loop-holds : tie.Need-loop-init invariant-loop decreases-loop
-loop-holds c = record { small = omega arith; fitting = c.before.before.requires; left = refl }
+loop-holds : tie.Need-loop-m-init invariant-loop decreases-loop
+loop-holds c = record { small = omega arith; fitting = c.requires; left = refl }
 
-cast-k : tie.Need-overflow-cast-k invariant-loop decreases-loop
+cast-k : tie.Need-overflow_cast-k invariant-loop decreases-loop
 cast-k c = omega (arith, (low c).0)
 
-revert-one-requires : tie.Need-revert-one-requires invariant-loop decreases-loop
-revert-one-requires c κs = (c.before.before.loop.invariant.fitting, (low c.before).0)
+revert-one-requires : tie.Need-revert_one-requires invariant-loop decreases-loop
+revert-one-requires c κs = (c.loop-m.invariant.fitting, (low c.before).0)
 
-sub-m : tie.Need-overflow-sub-m invariant-loop decreases-loop
+sub-m : tie.Need-overflow_sub-m invariant-loop decreases-loop
 sub-m c = omega arith
 
-loop-less : tie.Need-loop-smaller invariant-loop decreases-loop
+loop-less : tie.Need-loop-m-smaller invariant-loop decreases-loop
 loop-less c = let l = low c.before.before.before.before in rw (and_cleared l.1) (cleared_lt l.1)
 
-loop-again : tie.Need-loop-preserved invariant-loop decreases-loop
+loop-again : tie.Need-loop-m-preserved invariant-loop decreases-loop
 loop-again c =
     let l = low c.before.before.before.before in
-    let d = c.before.before.before.before.before.loop in
-    rw (and_cleared l.1) (doing-next d.invariant l.1 l.0 (revert_keeps d.invariant.fitting (count_trailing_zeros 32 d.m)) c.before.before.revert-one.ensures)
+    let d = c.loop-m in
+    rw (and_cleared l.1) (doing-next d.invariant l.1 l.0 (revert_keeps d.invariant.fitting (count_trailing_zeros 32 d.m)) c.revert_one.ensures)
 
-same_length : tie.Need-same-length invariant-loop decreases-loop
-same_length c = doing-length c.before.loop.invariant c.before.before.before.before.requires
+same_length : tie.Need-shape_of-copy invariant-loop decreases-loop
+same_length c = doing-length c.loop-m.invariant c.requires
 
 returns : tie.Need-returns invariant-loop decreases-loop
-returns c = doing_end c.before.loop.invariant c.before.before.before.before.requires (omega arith)
+returns c = doing_end c.loop-m.invariant c.requires (omega arith)
 
-pub revert-all-spec : {M : Type 1} → statement M
-revert-all-spec =
+pub revert_all_spec : {M : Type 1} → statement M
+revert_all_spec =
     tie.close
     (tie.spec
     invariant-loop

@@ -5,17 +5,17 @@ use Rattle.updates.proofs.Entering.{sheet_takable, sheet-taken}
 use Rattle.updates.proofs.take_sheet.Statement.{statement}
 use Rattle.updates.proofs.take_sheet.Tie as tie
 
-look-up-requires : tie.Need-look-up-requires
+look-up-requires : tie.Need-look_up-f-requires
 look-up-requires c κs = search rules
 
-take-block-requires : tie.Need-take-block-requires
-take-block-requires c κs = let k = c.before.before.before.before in sheet_takable k.requires.0 k.requires.2 c.before.look_up.ensures k.requires.1
+take-block-requires : tie.Need-take_block-requires
+take-block-requires c κs = let k = c in sheet_takable k.requires.0 k.requires.2 c.look_up-f.ensures k.requires.1
 
-same_length : tie.Need-same-length
+same_length : tie.Need-shape_of-copy
 same_length c = search rules
 
 returns : tie.Need-returns
-returns c = let k = c.before.before.before.before.before.before.before in sheet-taken k.requires.0 k.requires.2 c.before.before.before.before.look_up.ensures c.before.before.take-block.ensures
+returns c = let k = c in sheet-taken k.requires.0 k.requires.2 c.look_up-f.ensures c.take_block.ensures
 
-pub take-sheet-spec : {M : Type 1} → statement M
-take-sheet-spec = tie.close (tie.spec look-up-requires take-block-requires same_length returns)
+pub take_sheet_spec : {M : Type 1} → statement M
+take_sheet_spec = tie.close (tie.spec look-up-requires take-block-requires same_length returns)

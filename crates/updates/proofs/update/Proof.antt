@@ -5,38 +5,38 @@ use Rattle.updates.proofs.Answers.{update_done, update_late, update_none, update
 use Rattle.updates.proofs.update.Statement.{statement}
 use Rattle.updates.proofs.update.Tie as tie
 
-returns : tie.Need-returns
-returns c = let a = c.before.before.before.args in update_none a.store.now a.copy.now a.mask a.revision c.if1.true
+returns : tie.Need-returns-then-mask-eq0
+returns c = let a = c.args in update_none a.store.now a.copy.now a.mask a.revision c.if-mask-eq0.true
 
-returns-2 : tie.Need-returns-2
-returns-2 c = let k = c.before.before.before.before.before in let a = k.args in update_late a.store.now a.copy.now a.mask c.before.before.if1.false k.requires a.revision c.if2.true
+returns-2 : tie.Need-returns-then-v-revision
+returns-2 c = let k = c in let a = k.args in update_late a.store.now a.copy.now a.mask c.if-mask-eq0.false k.requires a.revision c.if-v-revision.true
 
-any-conflict-requires : tie.Need-any-conflict-requires
+any-conflict-requires : tie.Need-any_conflict-requires
 any-conflict-requires c κs = search rules
 
-same_length : tie.Need-same-length
+same_length : tie.Need-shape_of-copy-then-any_conflict
 same_length c = search rules
 
-returns-3 : tie.Need-returns-3
+returns-3 : tie.Need-returns-then-any_conflict
 returns-3 c =
-    let k = c.before.before.before.before.before.before.before.before in
+    let k = c in
     let a = k.args in
-    update_refused a.store.now a.copy.now a.mask c.before.before.before.before.before.if1.false k.requires a.revision c.before.before.before.if2.false c.before.any-conflict.ensures c.if3.true
+    update_refused a.store.now a.copy.now a.mask c.if-mask-eq0.false k.requires a.revision c.if-v-revision.false c.any_conflict.ensures c.if-any_conflict.true
 
-update-all-requires : tie.Need-update-all-requires
+update-all-requires : tie.Need-update_all-requires
 update-all-requires c κs = search rules
 
-same-length-2 : tie.Need-same-length-2
+same-length-2 : tie.Need-shape_of-copy
 same-length-2 c = search rules
 
-returns-4 : tie.Need-returns-4
+returns-4 : tie.Need-returns
 returns-4 c =
-    let k = c.before.before.before.before.before.before.before.before.before.before.before.before in
+    let k = c in
     let a = k.args in
-    update_done a.store.now a.copy.now a.mask c.before.before.before.before.before.before.before.before.before.if1.false k.requires a.revision c.before.before.before.before.before.before.before.if2.false c.before.before.before.before.before.any-conflict.ensures c.before.before.before.before.if3.false c.before.before.update_all.ensures
+    update_done a.store.now a.copy.now a.mask c.if-mask-eq0.false k.requires a.revision c.if-v-revision.false c.any_conflict.ensures c.if-any_conflict.false c.update_all.ensures
 
-pub update-spec : {M : Type 1} → statement M
-update-spec =
+pub update_spec : {M : Type 1} → statement M
+update_spec =
     tie.close
     (tie.spec
     returns
