@@ -13,47 +13,47 @@ use Rattle.engine.specs.declared.Request.{Request}
 meant : (store copy x : Bytes) {k k' : Request} → k ≡ k' → {o : Answered} → o ≡ requested store copy k' x → o ≡ requested store copy k x
 meant store copy x e q = q ∙ sym (ap (λ (k : Request). requested store copy k x) e)
 
-enum_told : tie.Need-enum-told
+enum_told : tie.Need-enum_told-1
 enum_told c = search rules
 
-create-store-requires : tie.Need-create-store-requires
+create-store-requires : tie.Need-create_store-requires
 create-store-requires c κs = search rules
 
-enum-known-request : tie.Need-enum-known-request
+enum-known-request : tie.Need-enum_known-request
 enum-known-request c = search rules
 
-create-copy-requires : tie.Need-create-copy-requires
+create-copy-requires : tie.Need-create_copy-requires
 create-copy-requires c κs = search rules
 
-enum-known-request-2 : tie.Need-enum-known-request-2
+enum-known-request-2 : tie.Need-enum_known-request-in-Call-1
 enum-known-request-2 c = search rules
 
-call-named-requires : tie.Need-call-named-requires
+call-named-requires : tie.Need-call_named-requires
 call-named-requires c κs = search rules
 
-same_length : tie.Need-same-length
+same_length : tie.Need-shape_of-store-in-CreateStore
 same_length c = search rules
 
-returns : tie.Need-returns
-returns c = let a = c.before.before.before.before.before.before.before.before.before.args in (meant a.store.now a.copy.now a.bytes.now c.before.before.before.before.enum_told.given.1 (ap (λ (o : Created). store_said o a.copy.now) c.before.before.create_store_lem.ensures), tt)
+returns : tie.Need-returns-in-CreateStore
+returns c = let a = c.args in (meant a.store.now a.copy.now a.bytes.now c.in-CreateStore.is (ap (λ (o : Created). store_said o a.copy.now) c.create_store.ensures), tt)
 
-same-length-2 : tie.Need-same-length-2
+same-length-2 : tie.Need-shape_of-copy-in-CreateCopy
 same-length-2 c = search rules
 
-returns-2 : tie.Need-returns-2
-returns-2 c = let a = c.before.before.before.before.before.before.before.before.before.before.args in (meant a.store.now a.copy.now a.bytes.now c.before.before.before.before.before.request.given.1 (ap (λ (o : Created). copy_said o a.store.now) c.before.before.create_copy_lem.ensures), tt)
+returns-2 : tie.Need-returns-in-CreateCopy
+returns-2 c = let a = c.args in (meant a.store.now a.copy.now a.bytes.now c.in-CreateCopy.is (ap (λ (o : Created). copy_said o a.store.now) c.create_copy.ensures), tt)
 
-same-length-3 : tie.Need-same-length-3
+same-length-3 : tie.Need-shape_of-store-in-Call
 same-length-3 c = search rules
 
-same-length-4 : tie.Need-same-length-4
+same-length-4 : tie.Need-shape_of-copy-in-Call
 same-length-4 c = search rules
 
-returns-3 : tie.Need-returns-3
-returns-3 c = let a = c.before.before.before.before.before.before.before.before.before.before.before.before.before.args in (meant a.store.now a.copy.now a.bytes.now c.before.before.before.before.before.before.before.before.request2.given.1 c.before.before.before.before.call-named.ensures.0, c.before.before.before.before.call-named.ensures.1)
+returns-3 : tie.Need-returns-in-Call
+returns-3 c = let a = c.args in (meant a.store.now a.copy.now a.bytes.now c.in-Call.is c.call_named.ensures.0, c.call_named.ensures.1)
 
-pub call-spec : {M : Type 1} → statement M
-call-spec =
+pub call_spec : {M : Type 1} → statement M
+call_spec =
     tie.close
     (tie.spec
     enum_told

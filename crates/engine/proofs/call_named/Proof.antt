@@ -16,263 +16,263 @@ use Rattle.engine.specs.Request.{Answered, answered, called, out_said, says, sta
 meant : (store copy x : Bytes) {k k' : Call} → k ≡ k' → {o : Answered} → o ≡ called store copy (call_of k' x) → o ≡ called store copy (call_of k x)
 meant store copy x e q = q ∙ sym (ap (λ (k : Call). called store copy (call_of k x)) e)
 
-enum-known-named : tie.Need-enum-known-named
+enum-known-named : tie.Need-enum_known-named
 enum-known-named c = search rules
 
 add-requires : tie.Need-add-requires
 add-requires c κs = search rules
 
-enum-known-named-2 : tie.Need-enum-known-named-2
+enum-known-named-2 : tie.Need-enum_known-named-in-Edit-1
 enum-known-named-2 c = search rules
 
 edit-requires : tie.Need-edit-requires
 edit-requires c κs = search rules
 
-enum-known-named-3 : tie.Need-enum-known-named-3
+enum-known-named-3 : tie.Need-enum_known-named-in-Delete-1
 enum-known-named-3 c = search rules
 
 delete-requires : tie.Need-delete-requires
 delete-requires c κs = search rules
 
-enum-known-named-4 : tie.Need-enum-known-named-4
+enum-known-named-4 : tie.Need-enum_known-named-in-Copy-1
 enum-known-named-4 c = search rules
 
-copy-sheet-requires : tie.Need-copy-sheet-requires
+copy-sheet-requires : tie.Need-copy_sheet-requires
 copy-sheet-requires c κs = search rules
 
-enum-known-named-5 : tie.Need-enum-known-named-5
+enum-known-named-5 : tie.Need-enum_known-named-in-Move-1
 enum-known-named-5 c = search rules
 
-move-sheet-requires : tie.Need-move-sheet-requires
+move-sheet-requires : tie.Need-move_sheet-requires
 move-sheet-requires c κs = search rules
 
-enum-known-named-6 : tie.Need-enum-known-named-6
+enum-known-named-6 : tie.Need-enum_known-named-in-Commit-1
 enum-known-named-6 c = search rules
 
 commit-requires : tie.Need-commit-requires
 commit-requires c κs = search rules
 
-enum-known-named-7 : tie.Need-enum-known-named-7
+enum-known-named-7 : tie.Need-enum_known-named-in-Update-1
 enum-known-named-7 c = search rules
 
 update-requires : tie.Need-update-requires
 update-requires c κs = search rules
 
-enum-known-named-8 : tie.Need-enum-known-named-8
+enum-known-named-8 : tie.Need-enum_known-named-in-Revert-1
 enum-known-named-8 c = search rules
 
 revert-requires : tie.Need-revert-requires
 revert-requires c κs = search rules
 
-enum-known-named-9 : tie.Need-enum-known-named-9
+enum-known-named-9 : tie.Need-enum_known-named-in-Read-1
 enum-known-named-9 c = search rules
 
-read-place-requires : tie.Need-read-place-requires
+read-place-requires : tie.Need-read_place-requires
 read-place-requires c κs = search rules
 
-enum-known-named-10 : tie.Need-enum-known-named-10
+enum-known-named-10 : tie.Need-enum_known-named-in-Show-1
 enum-known-named-10 c = search rules
 
-show-place-requires : tie.Need-show-place-requires
+show-place-requires : tie.Need-show_place-requires
 show-place-requires c κs = search rules
 
-enum-known-named-11 : tie.Need-enum-known-named-11
+enum-known-named-11 : tie.Need-enum_known-named-in-Status-1
 enum-known-named-11 c = search rules
 
 status-requires : tie.Need-status-requires
 status-requires c κs = search rules
 
-enum-known-named-12 : tie.Need-enum-known-named-12
+enum-known-named-12 : tie.Need-enum_known-named-in-Log-1
 enum-known-named-12 c = search rules
 
 log-requires : tie.Need-log-requires
 log-requires c κs = search rules
 
-enum_told : tie.Need-enum-told
+enum_told : tie.Need-enum_told-1
 enum_told c = search rules
 
 clear-requires : tie.Need-clear-requires
 clear-requires c κs = search rules
 
-enum-known-named-13 : tie.Need-enum-known-named-13
+enum-known-named-13 : tie.Need-enum_known-named-in-CommitCut-1
 enum-known-named-13 c = search rules
 
-commit-cut-requires : tie.Need-commit-cut-requires
+commit-cut-requires : tie.Need-commit_cut-requires
 commit-cut-requires c κs = search rules
 
-enum-known-named-14 : tie.Need-enum-known-named-14
+enum-known-named-14 : tie.Need-enum_known-named-in-ClearCut-1
 enum-known-named-14 c = search rules
 
-clear-cut-requires : tie.Need-clear-cut-requires
+clear-cut-requires : tie.Need-clear_cut-requires
 clear-cut-requires c κs = search rules
 
-enum-known-named-15 : tie.Need-enum-known-named-15
+enum-known-named-15 : tie.Need-enum_known-named-in-Release-1
 enum-known-named-15 c = search rules
 
 release-requires : tie.Need-release-requires
 release-requires c κs = search rules
 
-enum-known-named-16 : tie.Need-enum-known-named-16
+enum-known-named-16 : tie.Need-enum_known-named-in-Panel-1
 enum-known-named-16 c = search rules
 
-panel-place-requires : tie.Need-panel-place-requires
+panel-place-requires : tie.Need-panel_place-requires
 panel-place-requires c κs = search rules
 
-same_length : tie.Need-same-length
+same_length : tie.Need-shape_of-store-in-Add
 same_length c = search rules
 
-same-length-2 : tie.Need-same-length-2
+same-length-2 : tie.Need-shape_of-copy-in-Add
 same-length-2 c = search rules
 
-returns : tie.Need-returns
-returns c = let a = c.before.before.before.before.before.before.before.before.before.before.before.args in (meant a.store.now a.copy.now a.bytes.now c.before.before.before.before.before.before.named.given.1 (ap out_said c.before.before.add.ensures), tt)
+returns : tie.Need-returns-in-Add
+returns c = let a = c.args in (meant a.store.now a.copy.now a.bytes.now c.in-Add.is (ap out_said c.add.ensures), tt)
 
-same-length-3 : tie.Need-same-length-3
+same-length-3 : tie.Need-shape_of-store-in-Edit
 same-length-3 c = search rules
 
-same-length-4 : tie.Need-same-length-4
+same-length-4 : tie.Need-shape_of-copy-in-Edit
 same-length-4 c = search rules
 
-returns-2 : tie.Need-returns-2
-returns-2 c = let a = c.before.before.before.before.before.before.before.before.before.before.before.args in (meant a.store.now a.copy.now a.bytes.now c.before.before.before.before.before.before.named2.given.1 (ap out_said c.before.before.edit.ensures), tt)
+returns-2 : tie.Need-returns-in-Edit
+returns-2 c = let a = c.args in (meant a.store.now a.copy.now a.bytes.now c.in-Edit.is (ap out_said c.edit.ensures), tt)
 
-same-length-5 : tie.Need-same-length-5
+same-length-5 : tie.Need-shape_of-store-in-Delete
 same-length-5 c = search rules
 
-same-length-6 : tie.Need-same-length-6
+same-length-6 : tie.Need-shape_of-copy-in-Delete
 same-length-6 c = search rules
 
-returns-3 : tie.Need-returns-3
-returns-3 c = let a = c.before.before.before.before.before.before.before.before.before.before.before.args in (meant a.store.now a.copy.now a.bytes.now c.before.before.before.before.before.before.named3.given.1 (ap out_said c.before.before.delete.ensures), tt)
+returns-3 : tie.Need-returns-in-Delete
+returns-3 c = let a = c.args in (meant a.store.now a.copy.now a.bytes.now c.in-Delete.is (ap out_said c.delete.ensures), tt)
 
-same-length-7 : tie.Need-same-length-7
+same-length-7 : tie.Need-shape_of-store-in-Copy
 same-length-7 c = search rules
 
-same-length-8 : tie.Need-same-length-8
+same-length-8 : tie.Need-shape_of-copy-in-Copy
 same-length-8 c = search rules
 
-returns-4 : tie.Need-returns-4
-returns-4 c = let a = c.before.before.before.before.before.before.before.before.before.before.before.args in (meant a.store.now a.copy.now a.bytes.now c.before.before.before.before.before.before.named4.given.1 (ap out_said c.before.before.copy-sheet.ensures), tt)
+returns-4 : tie.Need-returns-in-Copy
+returns-4 c = let a = c.args in (meant a.store.now a.copy.now a.bytes.now c.in-Copy.is (ap out_said c.copy_sheet.ensures), tt)
 
-same-length-9 : tie.Need-same-length-9
+same-length-9 : tie.Need-shape_of-store-in-Move
 same-length-9 c = search rules
 
-same-length-10 : tie.Need-same-length-10
+same-length-10 : tie.Need-shape_of-copy-in-Move
 same-length-10 c = search rules
 
-returns-5 : tie.Need-returns-5
-returns-5 c = let a = c.before.before.before.before.before.before.before.before.before.before.before.args in (meant a.store.now a.copy.now a.bytes.now c.before.before.before.before.before.before.named5.given.1 (ap out_said c.before.before.move-sheet.ensures), tt)
+returns-5 : tie.Need-returns-in-Move
+returns-5 c = let a = c.args in (meant a.store.now a.copy.now a.bytes.now c.in-Move.is (ap out_said c.move_sheet.ensures), tt)
 
-same-length-11 : tie.Need-same-length-11
+same-length-11 : tie.Need-shape_of-store-in-Commit
 same-length-11 c = search rules
 
-same-length-12 : tie.Need-same-length-12
+same-length-12 : tie.Need-shape_of-copy-in-Commit
 same-length-12 c = search rules
 
-returns-6 : tie.Need-returns-6
-returns-6 c = let a = c.before.before.before.before.before.before.before.before.before.before.before.before.before.args in (meant a.store.now a.copy.now a.bytes.now c.before.before.before.before.before.before.before.before.named6.given.1 (ap out_said c.before.before.before.before.commit.ensures), tt)
+returns-6 : tie.Need-returns-in-Commit
+returns-6 c = let a = c.args in (meant a.store.now a.copy.now a.bytes.now c.in-Commit.is (ap out_said c.commit.ensures), tt)
 
-same-length-13 : tie.Need-same-length-13
+same-length-13 : tie.Need-shape_of-store-in-Update
 same-length-13 c = search rules
 
-same-length-14 : tie.Need-same-length-14
+same-length-14 : tie.Need-shape_of-copy-in-Update
 same-length-14 c = search rules
 
-returns-7 : tie.Need-returns-7
-returns-7 c = let a = c.before.before.before.before.before.before.before.before.before.before.before.args in (meant a.store.now a.copy.now a.bytes.now c.before.before.before.before.before.before.named7.given.1 (ap out_said c.before.before.update.ensures), tt)
+returns-7 : tie.Need-returns-in-Update
+returns-7 c = let a = c.args in (meant a.store.now a.copy.now a.bytes.now c.in-Update.is (ap out_said c.update.ensures), tt)
 
-same-length-15 : tie.Need-same-length-15
+same-length-15 : tie.Need-shape_of-store-in-Revert
 same-length-15 c = search rules
 
-same-length-16 : tie.Need-same-length-16
+same-length-16 : tie.Need-shape_of-copy-in-Revert
 same-length-16 c = search rules
 
-returns-8 : tie.Need-returns-8
-returns-8 c = let a = c.before.before.before.before.before.before.before.before.before.before.before.args in (meant a.store.now a.copy.now a.bytes.now c.before.before.before.before.before.before.named8.given.1 (ap out_said c.before.before.revert.ensures), tt)
+returns-8 : tie.Need-returns-in-Revert
+returns-8 c = let a = c.args in (meant a.store.now a.copy.now a.bytes.now c.in-Revert.is (ap out_said c.revert.ensures), tt)
 
-same-length-17 : tie.Need-same-length-17
+same-length-17 : tie.Need-shape_of-store-in-Read
 same-length-17 c = search rules
 
-returns-9 : tie.Need-returns-9
+returns-9 : tie.Need-returns-in-Read
 returns-9 c =
-    let a = c.before.before.before.before.before.before.before.before.args in
-    (meant a.store.now a.copy.now a.bytes.now c.before.before.before.named9.given.1 (ap (λ (p : Place). answered (stands p) a.store.now a.copy.now) c.read-place.ensures.is), none_inside a.store.now a.copy.now c.read-place.result c.read-place.ensures.inside)
+    let a = c.args in
+    (meant a.store.now a.copy.now a.bytes.now c.in-Read.is (ap (λ (p : Place). answered (stands p) a.store.now a.copy.now) c.read_place.ensures.is), none_inside a.store.now a.copy.now c.read_place.result c.read_place.ensures.inside)
 
-same-length-18 : tie.Need-same-length-18
+same-length-18 : tie.Need-shape_of-store-in-Show
 same-length-18 c = search rules
 
-same-length-19 : tie.Need-same-length-19
+same-length-19 : tie.Need-shape_of-copy-in-Show
 same-length-19 c = search rules
 
-returns-10 : tie.Need-returns-10
+returns-10 : tie.Need-returns-in-Show
 returns-10 c =
-    let a = c.before.before.before.before.before.before.before.before.before.args in
-    (meant a.store.now a.copy.now a.bytes.now c.before.before.before.before.named10.given.1 (ap (λ (p : Place). answered (stands p) a.store.now a.copy.now) c.show-place.ensures.is), c.show-place.ensures.inside)
+    let a = c.args in
+    (meant a.store.now a.copy.now a.bytes.now c.in-Show.is (ap (λ (p : Place). answered (stands p) a.store.now a.copy.now) c.show_place.ensures.is), c.show_place.ensures.inside)
 
-same-length-20 : tie.Need-same-length-20
+same-length-20 : tie.Need-shape_of-store-in-Status
 same-length-20 c = search rules
 
-same-length-21 : tie.Need-same-length-21
+same-length-21 : tie.Need-shape_of-copy-in-Status
 same-length-21 c = search rules
 
-returns-11 : tie.Need-returns-11
+returns-11 : tie.Need-returns-in-Status
 returns-11 c =
-    let a = c.before.before.before.before.before.before.before.before.before.args in
-    (meant a.store.now a.copy.now a.bytes.now c.before.before.before.before.named11.given.1 (ap (λ (s : Answer). answered (says s) a.store.now a.copy.now) c.status.ensures), tt)
+    let a = c.args in
+    (meant a.store.now a.copy.now a.bytes.now c.in-Status.is (ap (λ (s : Answer). answered (says s) a.store.now a.copy.now) c.status.ensures), tt)
 
-same-length-22 : tie.Need-same-length-22
+same-length-22 : tie.Need-shape_of-store-in-Log
 same-length-22 c = search rules
 
-returns-12 : tie.Need-returns-12
+returns-12 : tie.Need-returns-in-Log
 returns-12 c =
-    let a = c.before.before.before.before.before.before.before.before.args in
-    (meant a.store.now a.copy.now a.bytes.now c.before.before.before.named12.given.1 (ap (λ (s : Answer). answered (says s) a.store.now a.copy.now) c.log.ensures), tt)
+    let a = c.args in
+    (meant a.store.now a.copy.now a.bytes.now c.in-Log.is (ap (λ (s : Answer). answered (says s) a.store.now a.copy.now) c.log.ensures), tt)
 
-same-length-23 : tie.Need-same-length-23
+same-length-23 : tie.Need-shape_of-store-in-Clear
 same-length-23 c = search rules
 
-returns-13 : tie.Need-returns-13
+returns-13 : tie.Need-returns-in-Clear
 returns-13 c =
-    let a = c.before.before.before.before.before.before.before.before.before.args in
-    (meant a.store.now a.copy.now a.bytes.now c.before.before.before.before.enum_told.given.1 (ap (λ (o : Created). answered (says o.says) o.buffer a.copy.now) c.before.before.clear.ensures), tt)
+    let a = c.args in
+    (meant a.store.now a.copy.now a.bytes.now c.in-Clear.is (ap (λ (o : Created). answered (says o.says) o.buffer a.copy.now) c.clear.ensures), tt)
 
-same-length-24 : tie.Need-same-length-24
+same-length-24 : tie.Need-shape_of-store-in-CommitCut
 same-length-24 c = search rules
 
-same-length-25 : tie.Need-same-length-25
+same-length-25 : tie.Need-shape_of-copy-in-CommitCut
 same-length-25 c = search rules
 
-returns-14 : tie.Need-returns-14
+returns-14 : tie.Need-returns-in-CommitCut
 returns-14 c =
-    let a = c.before.before.before.before.before.before.before.before.before.before.before.before.before.args in
-    (meant a.store.now a.copy.now a.bytes.now c.before.before.before.before.before.before.before.before.named13.given.1 (ap out_said c.before.before.before.before.commit_cut_lem.ensures), tt)
+    let a = c.args in
+    (meant a.store.now a.copy.now a.bytes.now c.in-CommitCut.is (ap out_said c.commit_cut.ensures), tt)
 
-same-length-26 : tie.Need-same-length-26
+same-length-26 : tie.Need-shape_of-store-in-ClearCut
 same-length-26 c = search rules
 
-returns-15 : tie.Need-returns-15
+returns-15 : tie.Need-returns-in-ClearCut
 returns-15 c =
-    let a = c.before.before.before.before.before.before.before.before.before.before.args in
-    (meant a.store.now a.copy.now a.bytes.now c.before.before.before.before.before.named14.given.1 (ap (λ (o : Created). answered (says o.says) o.buffer a.copy.now) c.before.before.clear_cut_lem.ensures), tt)
+    let a = c.args in
+    (meant a.store.now a.copy.now a.bytes.now c.in-ClearCut.is (ap (λ (o : Created). answered (says o.says) o.buffer a.copy.now) c.clear_cut.ensures), tt)
 
-same-length-27 : tie.Need-same-length-27
+same-length-27 : tie.Need-shape_of-store-in-Release
 same-length-27 c = search rules
 
-returns-16 : tie.Need-returns-16
+returns-16 : tie.Need-returns-in-Release
 returns-16 c =
-    let a = c.before.before.before.before.before.before.before.before.before.before.args in
-    (meant a.store.now a.copy.now a.bytes.now c.before.before.before.before.before.named15.given.1 (ap (λ (o : Created). answered (says o.says) o.buffer a.copy.now) c.before.before.release.ensures), tt)
+    let a = c.args in
+    (meant a.store.now a.copy.now a.bytes.now c.in-Release.is (ap (λ (o : Created). answered (says o.says) o.buffer a.copy.now) c.release.ensures), tt)
 
-same-length-28 : tie.Need-same-length-28
+same-length-28 : tie.Need-shape_of-store-in-Panel
 same-length-28 c = search rules
 
-returns-17 : tie.Need-returns-17
+returns-17 : tie.Need-returns-in-Panel
 returns-17 c =
-    let a = c.before.before.before.before.before.before.before.before.args in
-    (meant a.store.now a.copy.now a.bytes.now c.before.before.before.named16.given.1 (ap (λ (p : Place). answered (stands p) a.store.now a.copy.now) c.panel_place_holds.ensures.is), none_inside a.store.now a.copy.now c.panel_place_holds.result c.panel_place_holds.ensures.inside)
+    let a = c.args in
+    (meant a.store.now a.copy.now a.bytes.now c.in-Panel.is (ap (λ (p : Place). answered (stands p) a.store.now a.copy.now) c.panel_place_holds.ensures.is), none_inside a.store.now a.copy.now c.panel_place_holds.result c.panel_place_holds.ensures.inside)
 
-pub call-named-spec : {M : Type 1} → statement M
-call-named-spec =
+pub call_named_spec : {M : Type 1} → statement M
+call_named_spec =
     tie.close
     (tie.spec
     enum-known-named

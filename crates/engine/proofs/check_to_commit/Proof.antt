@@ -9,43 +9,40 @@ use borrow.Author.Rules.{rules}
 use Rattle.engine.proofs.check_to_commit.Statement.{statement}
 use Rattle.engine.proofs.check_to_commit.Tie as tie
 
-open-requires : tie.Need-open-requires
+open-requires : tie.Need-open-opened-requires
 open-requires c κs = search rules
 
-enum-known-opened : tie.Need-enum-known-opened
+enum-known-opened : tie.Need-enum_known-opened
 enum-known-opened c = search rules
 
-enum-known-opened-2 : tie.Need-enum-known-opened-2
+enum-known-opened-2 : tie.Need-enum_known-opened-in-Open-1
 enum-known-opened-2 c = search rules
 
 has-requires : tie.Need-has-requires
 has-requires c κs =
-    let a = c.before.before.before.before.before.before.args in
-    let k = c.before.opened2.given in
-    open_taken a.store.now k.0.0 (sym c.before.before.before.«open».ensures ∙ k.1)
+    let a = c.args in
+    open_taken a.store.now c.in-Open.h (sym c.open-opened.ensures ∙ c.in-Open.is)
 
-returns : tie.Need-returns
+returns : tie.Need-returns-then-has
 returns c =
-    let a = c.before.before.before.before.before.before.before.before.args in
-    let k = c.before.before.before.opened2.given in
-    tail-first a.store.now (copy_conditions a.store.now a.copy.now) (open_taken a.store.now k.0.0 (sym c.before.before.before.before.before.«open».ensures ∙ k.1)).clear (sym c.before.has.ensures ∙ c.if1.true)
+    let a = c.args in
+    tail-first a.store.now (copy_conditions a.store.now a.copy.now) (open_taken a.store.now c.in-Open.h (sym c.open-opened.ensures ∙ c.in-Open.is)).clear (sym c.has.ensures ∙ c.if-has.true)
 
-check-copy-requires : tie.Need-check-copy-requires
-check-copy-requires c κs = let k = c.before.before.before.opened2.given in sym c.before.before.before.before.before.«open».ensures ∙ k.1
+check-copy-requires : tie.Need-check_copy-requires
+check-copy-requires c κs = sym c.open-opened.ensures ∙ c.in-Open.is
 
-returns-2 : tie.Need-returns-2
+returns-2 : tie.Need-returns-in-Refused
 returns-2 c =
-    let a = c.before.before.before.before.before.before.args in
-    let k = c.before.opened.given in
-    not_open a.store.now a.copy.now k.0.0 (sym c.before.before.before.«open».ensures ∙ k.1)
+    let a = c.args in
+    not_open a.store.now a.copy.now c.in-Refused.k (sym c.open-opened.ensures ∙ c.in-Refused.is)
 
-returns-3 : tie.Need-returns-3
+returns-3 : tie.Need-returns-else-has
 returns-3 c =
-    let a = c.before.before.before.before.before.before.before.before.before.args in
-    checked_so a.store.now a.copy.now c.check_copy_lem.result (sym c.before.before.has.ensures ∙ c.before.if1.false) (sym c.check_copy_lem.ensures)
+    let a = c.args in
+    checked_so a.store.now a.copy.now c.check_copy.result (sym c.has.ensures ∙ c.if-has.false) (sym c.check_copy.ensures)
 
-pub check-to-commit-spec : {M : Type 1} → statement M
-check-to-commit-spec =
+pub check_to_commit_spec : {M : Type 1} → statement M
+check_to_commit_spec =
     tie.close
     (tie.spec
     open-requires

@@ -7,19 +7,19 @@ use borrow.Author.Rules.{rules}
 use Rattle.engine.proofs.commit.Statement.{statement}
 use Rattle.engine.proofs.commit.Tie as tie
 
-commit-cut-requires : tie.Need-commit-cut-requires
+commit-cut-requires : tie.Need-commit_cut-requires
 commit-cut-requires c κs = search rules
 
-same_length : tie.Need-same-length
+same_length : tie.Need-shape_of-store
 same_length c = search rules
 
-same-length-2 : tie.Need-same-length-2
+same-length-2 : tie.Need-shape_of-copy
 same-length-2 c = search rules
 
 returns : tie.Need-returns
 returns c =
-    let a = c.before.before.before.before.before.before.before.before.before.args in
-    c.before.before.before.before.commit_cut_lem.ensures ∙ whole-commit a.store.now a.copy.now a.stamp a.mask (omega arith)
+    let a = c.args in
+    c.commit_cut.ensures ∙ whole-commit a.store.now a.copy.now a.stamp a.mask (omega arith)
 
-pub commit-spec : {M : Type 1} → statement M
-commit-spec = tie.close (tie.spec commit-cut-requires same_length same-length-2 returns)
+pub commit_spec : {M : Type 1} → statement M
+commit_spec = tie.close (tie.spec commit-cut-requires same_length same-length-2 returns)

@@ -7,47 +7,45 @@ use borrow.Author.Rules.{rules}
 use Rattle.engine.proofs.commit_cut.Statement.{statement}
 use Rattle.engine.proofs.commit_cut.Tie as tie
 
-check-to-commit-requires : tie.Need-check-to-commit-requires
+check-to-commit-requires : tie.Need-check_to_commit-c-requires
 check-to-commit-requires c κs = search rules
 
-enum-known-c : tie.Need-enum-known-c
+enum-known-c : tie.Need-enum_known-c
 enum-known-c c = search rules
 
-enum-known-c-2 : tie.Need-enum-known-c-2
+enum-known-c-2 : tie.Need-enum_known-c-in-Ready-1
 enum-known-c-2 c = search rules
 
-commit-requires : tie.Need-commit-requires
+commit-requires : tie.Need-commit-filed-requires
 commit-requires c κs =
-    let a = c.before.before.before.before.before.before.before.before.before.before.args in
-    subst (MayCommit a.store.now a.copy.now) c.before.before.before.c2.given.1 c.before.before.before.before.before.check-to-commit.ensures
+    let a = c.args in
+    subst (MayCommit a.store.now a.copy.now) c.in-Ready.is c.check_to_commit-c.ensures
 
-same_length : tie.Need-same-length
+same_length : tie.Need-shape_of-store-in-Refused
 same_length c = search rules
 
-same-length-2 : tie.Need-same-length-2
+same-length-2 : tie.Need-shape_of-copy-in-Refused
 same-length-2 c = search rules
 
-returns : tie.Need-returns
+returns : tie.Need-returns-in-Refused
 returns c =
-    let a = c.before.before.before.before.before.before.before.before.args in
-    let k = c.before.c.given in
-    cut_checked a.store.now a.copy.now a.stamp a.mask a.n k.0.0 (subst (MayCommit a.store.now a.copy.now) k.1 c.before.before.before.check-to-commit.ensures)
+    let a = c.args in
+    cut_checked a.store.now a.copy.now a.stamp a.mask a.n c.in-Refused.k (subst (MayCommit a.store.now a.copy.now) c.in-Refused.is c.check_to_commit-c.ensures)
 
-same-length-3 : tie.Need-same-length-3
+same-length-3 : tie.Need-shape_of-store-in-Ready
 same-length-3 c = search rules
 
-same-length-4 : tie.Need-same-length-4
+same-length-4 : tie.Need-shape_of-copy-in-Ready
 same-length-4 c = search rules
 
-returns-2 : tie.Need-returns-2
+returns-2 : tie.Need-returns-in-Ready
 returns-2 c =
-    let a = c.before.before.before.before.before.before.before.before.before.before.before.before.before.before.before.args in
-    let k = c.before.before.before.before.before.before.before.before.c2.given in
-    c.before.before.before.before.commit.ensures.is
-    ∙ cut_done a.store.now a.copy.now a.stamp a.mask a.n k.0.0 (subst (MayCommit a.store.now a.copy.now) k.1 c.before.before.before.before.before.before.before.before.before.before.check-to-commit.ensures)
+    let a = c.args in
+    c.commit-filed.ensures.is
+    ∙ cut_done a.store.now a.copy.now a.stamp a.mask a.n c.in-Ready.v (subst (MayCommit a.store.now a.copy.now) c.in-Ready.is c.check_to_commit-c.ensures)
 
-pub commit-cut-spec : {M : Type 1} → statement M
-commit-cut-spec =
+pub commit_cut_spec : {M : Type 1} → statement M
+commit_cut_spec =
     tie.close
     (tie.spec
     check-to-commit-requires

@@ -10,14 +10,14 @@ use Rattle.engine.proofs.Fresh.{all-zero, create_done, create_refused}
 use Rattle.engine.proofs.create_store.Statement.{statement}
 use Rattle.engine.proofs.create_store.Tie as tie
 
-wrong-size-requires : tie.Need-wrong-size-requires
+wrong-size-requires : tie.Need-wrong_size-requires
 wrong-size-requires c κs = search rules
 
-same_length : tie.Need-same-length
+same_length : tie.Need-shape_of-store-then-wrong_size
 same_length c = search rules
 
-returns : tie.Need-returns
-returns c = create_refused c.before.before.before.before.args.store.now (sym c.before.wrong_size.ensures ∙ search rules)
+returns : tie.Need-returns-then-wrong_size
+returns c = create_refused c.args.store.now (sym c.wrong_size.ensures ∙ search rules)
 
 clear-requires : tie.Need-clear-requires
 clear-requires c κs = search rules
@@ -28,23 +28,23 @@ put-requires c κs = search rules
 put-requires-2 : tie.Need-put-requires-2
 put-requires-2 c κs = search rules
 
-seal-at-requires : tie.Need-seal-at-requires
+seal-at-requires : tie.Need-seal_at-requires
 seal-at-requires c κs = search rules
 
-same-length-2 : tie.Need-same-length-2
+same-length-2 : tie.Need-shape_of-store
 same-length-2 c = search rules
 
-returns-2 : tie.Need-returns-2
+returns-2 : tie.Need-returns
 returns-2 c =
-    let l = c.before.before.before.before.before.before.before.before.before.before.before.before.before.before.before.before.before.before.before.before.args.store.now in
-    let cleared = c.before.before.before.before.before.before.before.before.before.before.before.before.before.before.clear.ensures ∙ all-zero l in
-    let put₀ = c.before.before.before.before.before.before.before.before.before.before.put.ensures ∙ ap (λ (x : List ℕ). set x 0 1) cleared in
-    let put₁ = c.before.before.before.before.before.before.put2.ensures ∙ ap (λ (x : List ℕ). set x 1 1) put₀ in
-    create_done l c.before.before.seal-at.new.0 (sym c.before.before.before.before.before.before.before.before.before.before.before.before.before.before.before.before.before.wrong_size.ensures ∙ search rules)
-    (c.before.before.seal-at.ensures ∙ ap (λ (x : List ℕ). seal_at x 0) put₁)
+    let l = c.args.store.now in
+    let cleared = c.clear.ensures ∙ all-zero l in
+    let put₀ = c.put.ensures ∙ ap (λ (x : List ℕ). set x 0 1) cleared in
+    let put₁ = c.put-2.ensures ∙ ap (λ (x : List ℕ). set x 1 1) put₀ in
+    create_done l c.seal_at.new.s (sym c.wrong_size.ensures ∙ search rules)
+    (c.seal_at.ensures ∙ ap (λ (x : List ℕ). seal_at x 0) put₁)
 
-pub create-store-spec : {M : Type 1} → statement M
-create-store-spec =
+pub create_store_spec : {M : Type 1} → statement M
+create_store_spec =
     tie.close
     (tie.spec
     wrong-size-requires

@@ -8,38 +8,38 @@ use borrow.Author.Rules.{rules}
 use Rattle.engine.proofs.move_sheet.Statement.{statement}
 use Rattle.engine.proofs.move_sheet.Tie as tie
 
-check-requires : tie.Need-check-requires
+check-requires : tie.Need-check-c-requires
 check-requires c κs = search rules
 
-enum-known-c : tie.Need-enum-known-c
+enum-known-c : tie.Need-enum_known-c
 enum-known-c c = search rules
 
-enum-known-c-2 : tie.Need-enum-known-c-2
+enum-known-c-2 : tie.Need-enum_known-c-in-Ready-1
 enum-known-c-2 c = search rules
 
-move-sheet-requires : tie.Need-move-sheet-requires
+move-sheet-requires : tie.Need-move_sheet-requires
 move-sheet-requires c κs =
-    let a = c.before.before.before.before.before.before.before.before.args in
-    (check_ready a.store.now a.copy.now c.before.before.c2.given.0.0 (sym c.before.before.before.before.check.ensures ∙ c.before.before.c2.given.1)).viewed.accepted
+    let a = c.args in
+    (check_ready a.store.now a.copy.now c.in-Ready.v (sym c.check-c.ensures ∙ c.in-Ready.is)).viewed.accepted
 
-same_length : tie.Need-same-length
+same_length : tie.Need-shape_of-copy-in-Refused
 same_length c = search rules
 
-returns : tie.Need-returns
+returns : tie.Need-returns-in-Refused
 returns c =
-    let a = c.before.before.before.before.before.before.before.args in
-    refused-call a.store.now a.copy.now c.before.c.given.0.0 (Move a.from a.to) tt (sym c.before.before.before.check.ensures ∙ c.before.c.given.1)
+    let a = c.args in
+    refused-call a.store.now a.copy.now c.in-Refused.k (Move a.from a.to) tt (sym c.check-c.ensures ∙ c.in-Refused.is)
 
-same-length-2 : tie.Need-same-length-2
+same-length-2 : tie.Need-shape_of-copy-in-Ready
 same-length-2 c = search rules
 
-returns-2 : tie.Need-returns-2
+returns-2 : tie.Need-returns-in-Ready
 returns-2 c =
-    let a = c.before.before.before.before.before.before.before.before.before.before.before.args in
-    local_done a.store.now a.copy.now c.before.before.before.before.before.c2.given.0.0 (Move a.from a.to) c.before.before.move-sheet.result c.before.before.move-sheet.new.0 (sym c.before.before.before.before.before.before.before.check.ensures ∙ c.before.before.before.before.before.c2.given.1) tt c.before.before.move-sheet.ensures
+    let a = c.args in
+    local_done a.store.now a.copy.now c.in-Ready.v (Move a.from a.to) c.move_sheet.result c.move_sheet.new.copy (sym c.check-c.ensures ∙ c.in-Ready.is) tt c.move_sheet.ensures
 
-pub move-sheet-spec : {M : Type 1} → statement M
-move-sheet-spec =
+pub move_sheet_spec : {M : Type 1} → statement M
+move_sheet_spec =
     tie.close
     (tie.spec
     check-requires

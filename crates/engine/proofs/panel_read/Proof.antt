@@ -7,14 +7,14 @@ use Rattle.engine.proofs.panel_read.Statement.{statement}
 use Rattle.engine.specs.Part.{PartAt}
 use Rattle.engine.proofs.panel_read.Tie as tie
 
-panel-place-requires : tie.Need-panel-place-requires
+panel-place-requires : tie.Need-panel_place-place-requires
 panel-place-requires c κs = search rules
 
-part-at-requires : tie.Need-part-at-requires
+part-at-requires : tie.Need-part_at-requires
 part-at-requires c κs = c.panel_place_holds.ensures.inside
 
 returns : tie.Need-returns
-returns c = subst (λ (p : Place). PartAt c.before.before.before.args.store c.part_at.result (part_of p)) c.before.panel_place_holds.ensures.is c.part_at.ensures
+returns c = subst (λ (p : Place). PartAt c.args.store c.part_at.result (part_of p)) c.before.panel_place_holds.ensures.is c.part_at.ensures
 
-pub panel-read-spec : {M : Type 1} → statement M
-panel-read-spec = tie.close (tie.spec panel-place-requires part-at-requires returns)
+pub panel_read_spec : {M : Type 1} → statement M
+panel_read_spec = tie.close (tie.spec panel-place-requires part-at-requires returns)

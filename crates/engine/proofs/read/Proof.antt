@@ -7,14 +7,14 @@ use Rattle.engine.proofs.read.Statement.{statement}
 use Rattle.engine.specs.Part.{PartAt}
 use Rattle.engine.proofs.read.Tie as tie
 
-read-place-requires : tie.Need-read-place-requires
+read-place-requires : tie.Need-read_place-place-requires
 read-place-requires c κs = search rules
 
-part-at-requires : tie.Need-part-at-requires
-part-at-requires c κs = c.read-place.ensures.inside
+part-at-requires : tie.Need-part_at-requires
+part-at-requires c κs = c.read_place-place.ensures.inside
 
 returns : tie.Need-returns
-returns c = subst (λ (p : Place). PartAt c.before.before.before.args.store c.part_at.result (part_of p)) c.before.read-place.ensures.is c.part_at.ensures
+returns c = subst (λ (p : Place). PartAt c.args.store c.part_at.result (part_of p)) c.read_place-place.ensures.is c.part_at.ensures
 
 pub read_spec : {M : Type 1} → statement M
 read_spec = tie.close (tie.spec read-place-requires part-at-requires returns)

@@ -6,28 +6,28 @@ use Rattle.inner.proofs.Looking.{read_refused}
 use Rattle.engine.proofs.read_place.Statement.{statement}
 use Rattle.engine.proofs.read_place.Tie as tie
 
-open-requires : tie.Need-open-requires
+open-requires : tie.Need-open-opened-requires
 open-requires c κs = search rules
 
-enum-known-opened : tie.Need-enum-known-opened
+enum-known-opened : tie.Need-enum_known-opened
 enum-known-opened c = search rules
 
-enum-known-opened-2 : tie.Need-enum-known-opened-2
+enum-known-opened-2 : tie.Need-enum_known-opened-in-Open-1
 enum-known-opened-2 c = search rules
 
-place-in-requires : tie.Need-place-in-requires
-place-in-requires c κs = sym c.before.before.before.«open».ensures ∙ c.before.opened2.given.1
+place-in-requires : tie.Need-place_in-requires
+place-in-requires c κs = sym c.open-opened.ensures ∙ c.in-Open.is
 
-returns : tie.Need-returns
+returns : tie.Need-returns-in-Refused
 returns c =
-    let a = c.before.before.before.before.before.args in
-    record { is = read_refused a.store.now a.revision a.sheet c.before.opened.given.0.0 (sym c.before.before.before.«open».ensures ∙ c.before.opened.given.1); inside = tt }
+    let a = c.args in
+    record { is = read_refused a.store.now a.revision a.sheet c.in-Refused.k (sym c.open-opened.ensures ∙ c.in-Refused.is); inside = tt }
 
-returns-2 : tie.Need-returns-2
+returns-2 : tie.Need-returns-in-Open
 returns-2 c = search rules
 
-pub read-place-spec : {M : Type 1} → statement M
-read-place-spec =
+pub read_place_spec : {M : Type 1} → statement M
+read_place_spec =
     tie.close
     (tie.spec
     open-requires

@@ -6,30 +6,30 @@ use borrow.Author.Rules.{rules}
 use Rattle.engine.proofs.release.Statement.{statement}
 use Rattle.engine.proofs.release.Tie as tie
 
-open-requires : tie.Need-open-requires
+open-requires : tie.Need-open-opened-requires
 open-requires c κs = search rules
 
-enum-known-opened : tie.Need-enum-known-opened
+enum-known-opened : tie.Need-enum_known-opened
 enum-known-opened c = search rules
 
-enum-known-opened-2 : tie.Need-enum-known-opened-2
+enum-known-opened-2 : tie.Need-enum_known-opened-in-Open-1
 enum-known-opened-2 c = search rules
 
-release-in-requires : tie.Need-release-in-requires
-release-in-requires c κs = sym c.before.before.before.before.«open».ensures ∙ c.before.before.opened2.given.1
+release-in-requires : tie.Need-release_in-filed-requires
+release-in-requires c κs = sym c.open-opened.ensures ∙ c.in-Open.is
 
-same_length : tie.Need-same-length
+same_length : tie.Need-shape_of-store-in-Refused
 same_length c = search rules
 
-returns : tie.Need-returns
+returns : tie.Need-returns-in-Refused
 returns c =
-    let a = c.before.before.before.before.before.before.args in
-    release_refused a.store.now a.revision a.seat a.stamp c.before.opened.given.0.0 (sym c.before.before.before.«open».ensures ∙ c.before.opened.given.1)
+    let a = c.args in
+    release_refused a.store.now a.revision a.seat a.stamp c.in-Refused.k (sym c.open-opened.ensures ∙ c.in-Refused.is)
 
-same-length-2 : tie.Need-same-length-2
+same-length-2 : tie.Need-shape_of-store-in-Open
 same-length-2 c = search rules
 
-returns-2 : tie.Need-returns-2
+returns-2 : tie.Need-returns-in-Open
 returns-2 c = search rules
 
 pub release_spec : {M : Type 1} → statement M

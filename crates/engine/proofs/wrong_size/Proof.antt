@@ -22,14 +22,14 @@ few m n e h = sym (ap₂ (λ (t u : Bool). not t || (u || ltb 4_096 n)) (eq-eqb 
 rest : (m n : ℕ) → m ≡ 0 → 2 ≤ n → ltb 4_096 n ≡ wrong m n
 rest m n e h = sym (ap₂ (λ (t u : Bool). not t || (u || ltb 4_096 n)) (eq-eqb m 0 e) (le-ltb n 2 h))
 
-returns : tie.Need-returns
-returns c = let l = length c.before.args.store.now in uneven (l % 512) (l / 512) (λ e. omega arith)
+returns : tie.Need-returns-then-store-ne0
+returns c = let l = length c.args.store.now in uneven (l % 512) (l / 512) (λ e. omega arith)
 
-returns-2 : tie.Need-returns-2
-returns-2 c = let l = length c.before.before.args.store.now in few (l % 512) (l / 512) (omega arith) (omega arith)
+returns-2 : tie.Need-returns-then-n-lt2
+returns-2 c = let l = length c.args.store.now in few (l % 512) (l / 512) (omega arith) (omega arith)
 
-returns-3 : tie.Need-returns-3
-returns-3 c = let l = length c.before.before.args.store.now in rest (l % 512) (l / 512) (omega arith) (omega arith)
+returns-3 : tie.Need-returns
+returns-3 c = let l = length c.args.store.now in rest (l % 512) (l / 512) (omega arith) (omega arith)
 
-pub wrong-size-spec : {M : Type 1} → statement M
-wrong-size-spec = tie.close (tie.spec returns returns-2 returns-3)
+pub wrong_size_spec : {M : Type 1} → statement M
+wrong_size_spec = tie.close (tie.spec returns returns-2 returns-3)
