@@ -1,3 +1,2 @@
 // Theorems only: see proofs/.
 #![tactic(auto)]
-

@@ -1,7 +1,6 @@
 // The types of the engine's arguments and answers. What each means in the document's numbers and values is defined in specs/Types.antt.
 #![tactic(auto)]
 
-
 // The lines of "When the engine says no", by their numbers.
 #[derive(Clone, Copy)]
 pub enum Refusal {

@@ -1,3 +1,2 @@
 // Computed cases only: see proofs/.
 #![tactic(auto)]
-
