@@ -8,7 +8,7 @@ use mathlib.Core.List.{[]}
 use mathlib.Core.Logic.{◌↔◌}
 use mathlib.Core.Option.{Option, none, some}
 use mathlib.Core.Path.{◌∙◌, ◌≡◌, ap, refl, subst, sym}
-use denote.Ref.{Bor}
+use denote.Ref.{Bor, MutBor}
 use Rattle.model.specs.Calls.{Out, Place as Spot, both_conditions, call, conditions_in, create_copy, create_store, found_place, heard, out, panel_place, place_by, read_place, store_conditions, store_only_conditions, store_refusal, store_side}
 use Rattle.model.specs.Demand1.{Cleared, ClearedSome, Demand1, DoneOn, MarkMade}
 use Rattle.model.specs.History.{Bytes}
@@ -108,12 +108,12 @@ pub record CodeDemand1 : Type 2 where
   -- status, show, log, read and panel reading, which change no buffer
   pub looks : {store copy : Bytes} {c : Call} {a : Answer} → Looked store copy c a → Answers store copy c (out a store copy)
   -- create of a store and of a copy
-  pub creates_store : (κs : Lfts 1) (x x' : Bor Bytes) (r : TheAnswer) → create-store-reads.Learnt κs (x, tt) r (x', tt)
+  pub creates_store : (κs : Lfts 1) (x x' : MutBor Bytes) (r : TheAnswer) → create-store-reads.Learnt κs (x, tt) r (x', tt)
       → created_as r x'.now ≡ create_store x.now
-  pub creates_copy : (κs : Lfts 1) (x x' : Bor Bytes) (seat seat' : ℕ) (r : TheAnswer) → create-copy-reads.Learnt κs (x, (seat, tt)) r (x', (seat', tt))
+  pub creates_copy : (κs : Lfts 1) (x x' : MutBor Bytes) (seat seat' : ℕ) (r : TheAnswer) → create-copy-reads.Learnt κs (x, (seat, tt)) r (x', (seat', tt))
       → created_as r x'.now ≡ create_copy x.now seat
   -- the engine as one piece: any request; of read, panel reading and show, the bytes that stand at the place that it answers
-  pub requests : (κs : Lfts 3) (x y z x' y' z' : Bor Bytes) (q q' : Request) (r : Reply) → call-reads.Learnt κs (x, (y, (q, (z, tt)))) r (x', (y', (q', (z', tt))))
+  pub requests : (κs : Lfts 3) (x y : MutBor Bytes) (z : Bor Bytes) (x' y' : MutBor Bytes) (z' : Bor Bytes) (q q' : Request) (r : Reply) → call-reads.Learnt κs (x, (y, (q, (z, tt)))) r (x', (y', (q', (z', tt))))
       → AnswersTo x.now y.now q z.now (out (told x'.now y'.now r) x'.now y'.now)
   -- and what these definitions say of create: numbered, unchanged, or made; and of a panel's reading: read at the greatest released revision, or 8
   pub create : (store copy : Bytes) → Demand1 store copy

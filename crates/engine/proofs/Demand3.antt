@@ -5,7 +5,7 @@
 use Prim.Native.Nat.{◌-◌, ◌≤◌, ℕ}
 use mathlib.Core.List.{List, [], ◌++◌, ◌∷◌, map}
 use mathlib.Core.Path.{◌∙◌, ◌≡◌, ap, ap₂, refl, subst, sym}
-use denote.Ref.{Bor}
+use denote.Ref.{Bor, MutBor}
 use lib.ListN.{length, set, take}
 use lib.Seq.{take-length}
 use Rattle.model.specs.Calls.{Buffers, Created, Out, after_turn, answers_on, call, fresh_buffers, heard, out, panel_call, panel_place, read_call, read_place, run_on}
@@ -67,28 +67,28 @@ use Rattle.engine.proofs.read_place.Statement as read-statement
 
 -- one call as code makes it: on this store and copy it answers r and leaves this store and copy
 pub data Made : Bytes → Bytes → Call → TheAnswer → Bytes → Bytes → Type 0 where
-  adds : {sheet : ℕ} {r : TheAnswer} (κs : Lfts 3) (x y z x' y' z' : Bor Bytes)
+  adds : {sheet : ℕ} {r : TheAnswer} (κs : Lfts 3) (x : Bor Bytes) (y : MutBor Bytes) (z x' : Bor Bytes) (y' : MutBor Bytes) (z' : Bor Bytes)
       → add_reads.Learnt κs (x, (y, (sheet, (z, tt)))) r (x', (y', (sheet, (z', tt)))) → Made x.now y.now (Add sheet z.now) r x.now y'.now
-  edits : {sheet : ℕ} {r : TheAnswer} (κs : Lfts 3) (x y z x' y' z' : Bor Bytes)
+  edits : {sheet : ℕ} {r : TheAnswer} (κs : Lfts 3) (x : Bor Bytes) (y : MutBor Bytes) (z x' : Bor Bytes) (y' : MutBor Bytes) (z' : Bor Bytes)
       → edit-reads.Learnt κs (x, (y, (sheet, (z, tt)))) r (x', (y', (sheet, (z', tt)))) → Made x.now y.now (Edit sheet z.now) r x.now y'.now
-  deletes : {sheet : ℕ} {r : TheAnswer} (κs : Lfts 2) (x y x' y' : Bor Bytes)
+  deletes : {sheet : ℕ} {r : TheAnswer} (κs : Lfts 2) (x : Bor Bytes) (y : MutBor Bytes) (x' : Bor Bytes) (y' : MutBor Bytes)
       → delete-reads.Learnt κs (x, (y, (sheet, tt))) r (x', (y', (sheet, tt))) → Made x.now y.now (Delete sheet) r x.now y'.now
-  copies : {s t : ℕ} {r : TheAnswer} (κs : Lfts 2) (x y x' y' : Bor Bytes)
+  copies : {s t : ℕ} {r : TheAnswer} (κs : Lfts 2) (x : Bor Bytes) (y : MutBor Bytes) (x' : Bor Bytes) (y' : MutBor Bytes)
       → copy-reads.Learnt κs (x, (y, (s, (t, tt)))) r (x', (y', (s, (t, tt)))) → Made x.now y.now (Copy s t) r x.now y'.now
-  moves : {s t : ℕ} {r : TheAnswer} (κs : Lfts 2) (x y x' y' : Bor Bytes)
+  moves : {s t : ℕ} {r : TheAnswer} (κs : Lfts 2) (x : Bor Bytes) (y : MutBor Bytes) (x' : Bor Bytes) (y' : MutBor Bytes)
       → move-reads.Learnt κs (x, (y, (s, (t, tt)))) r (x', (y', (s, (t, tt)))) → Made x.now y.now (Move s t) r x.now y'.now
-  commits : {stamp mask : ℕ} {r : TheAnswer} (κs : Lfts 2) (x y x' y' : Bor Bytes)
+  commits : {stamp mask : ℕ} {r : TheAnswer} (κs : Lfts 2) (x y x' y' : MutBor Bytes)
       → commit-reads.Learnt κs (x, (y, (stamp, (mask, tt)))) r (x', (y', (stamp, (mask, tt)))) → Made x.now y.now (Commits stamp mask) r x'.now y'.now
-  updates : {mask R : ℕ} {r : TheAnswer} (κs : Lfts 2) (x y x' y' : Bor Bytes)
+  updates : {mask R : ℕ} {r : TheAnswer} (κs : Lfts 2) (x : Bor Bytes) (y : MutBor Bytes) (x' : Bor Bytes) (y' : MutBor Bytes)
       → update-reads.Learnt κs (x, (y, (mask, (R, tt)))) r (x', (y', (mask, (R, tt)))) → Made x.now y.now (Update mask R) r x.now y'.now
-  reverts : {mask : ℕ} {r : TheAnswer} (κs : Lfts 2) (x y x' y' : Bor Bytes)
+  reverts : {mask : ℕ} {r : TheAnswer} (κs : Lfts 2) (x : Bor Bytes) (y : MutBor Bytes) (x' : Bor Bytes) (y' : MutBor Bytes)
       → revert-reads.Learnt κs (x, (y, (mask, tt))) r (x', (y', (mask, tt))) → Made x.now y.now (Revert mask) r x.now y'.now
-  clears : {r : TheAnswer} {copy : Bytes} (κs : Lfts 1) (x x' : Bor Bytes) → clear_reads.Learnt κs (x, tt) r (x', tt) → Made x.now copy Clears r x'.now copy
-  commits_cut : {stamp mask n : ℕ} {r : TheAnswer} (κs : Lfts 2) (x y x' y' : Bor Bytes)
+  clears : {r : TheAnswer} {copy : Bytes} (κs : Lfts 1) (x x' : MutBor Bytes) → clear_reads.Learnt κs (x, tt) r (x', tt) → Made x.now copy Clears r x'.now copy
+  commits_cut : {stamp mask n : ℕ} {r : TheAnswer} (κs : Lfts 2) (x y x' y' : MutBor Bytes)
       → commit-cut-reads.Learnt κs (x, (y, (stamp, (mask, (n, tt))))) r (x', (y', (stamp, (mask, (n, tt))))) → Made x.now y.now (CommitsCut stamp mask n) r x'.now y'.now
-  clears_cut : {n : ℕ} {r : TheAnswer} {copy : Bytes} (κs : Lfts 1) (x x' : Bor Bytes)
+  clears_cut : {n : ℕ} {r : TheAnswer} {copy : Bytes} (κs : Lfts 1) (x x' : MutBor Bytes)
       → clear-cut-reads.Learnt κs (x, (n, tt)) r (x', (n, tt)) → Made x.now copy (ClearsCut n) r x'.now copy
-  releases : {R seat stamp : ℕ} {r : TheAnswer} {copy : Bytes} (κs : Lfts 1) (x x' : Bor Bytes)
+  releases : {R seat stamp : ℕ} {r : TheAnswer} {copy : Bytes} (κs : Lfts 1) (x x' : MutBor Bytes)
       → release-reads.Learnt κs (x, (R, (seat, (stamp, tt)))) r (x', (R, (seat, (stamp, tt)))) → Made x.now copy (Release R seat stamp) r x'.now copy
 
 -- a list of calls, their answers, and the buffers afterwards. Every beginning of a trace is a trace, so what is said of a trace is said after every call

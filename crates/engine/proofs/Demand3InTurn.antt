@@ -5,7 +5,7 @@ use Prim.Native.Nat.{◌-◌, ◌≤◌, ℕ}
 use mathlib.Core.List.{List, [], ◌++◌, ◌∷◌, map}
 use mathlib.Core.Path.{◌∙◌, ◌≡◌, ap, ap₂, refl, subst, sym}
 use contract.Lifetimes.{Lfts}
-use denote.Ref.{Bor}
+use denote.Ref.{MutBor}
 use lib.ListN.{length, set}
 use lib.Seq.{take-length}
 use Rattle.model.specs.Calls.{Buffers, Out, fresh_buffers, out}
@@ -35,7 +35,7 @@ use Rattle.turns.proofs.Traces.{CodeTurns, TurnMade, code_turns, left-made, turn
 
 -- a commit through the record
 pub data Through : Bytes → Bytes → TurnRecord → ℕ → ℕ → TheAnswer → Bytes → Bytes → Type 0 where
-  commits_in_turn : {t : TurnRecord} {stamp mask : ℕ} {r : TheAnswer} (κs : Lfts 2) (x y x' y' : Bor Bytes)
+  commits_in_turn : {t : TurnRecord} {stamp mask : ℕ} {r : TheAnswer} (κs : Lfts 2) (x y x' y' : MutBor Bytes)
       → in-turn-reads.Learnt κs (x, (y, (t, (stamp, (mask, tt))))) r (x', (y', (t, (stamp, (mask, tt))))) → Through x.now y.now t stamp mask r x'.now y'.now
 
 -- what an answer of either kind says

@@ -6,7 +6,7 @@ use Prim.Native.Nat.{◌+◌, ◌-◌, ℕ}
 use mathlib.Core.Bool.{Bool}
 use mathlib.Core.Option.{none}
 use mathlib.Core.Path.{◌∙◌, ◌≡◌, ap, ap₂, sym}
-use denote.Ref.{Bor}
+use denote.Ref.{Bor, MutBor}
 use Rattle.model.specs.Calls.{Created, Out, out, panel_place, read_place, show_place, store_conditions}
 use Rattle.model.specs.HalfWritten.{Bare, Meanwhile}
 use Rattle.model.specs.History.{Bytes}
@@ -55,7 +55,7 @@ pub record OnTail (store : Bytes) : Type 0 where
   pub clears : {copy store' copy' : Bytes} {r : TheAnswer} → Made store copy Clears r store' copy' → (answer_of r ≡ done) × (store' ≡ bare_of store)
   pub unchanged : tail_of store ≡ 0 → bare_of store ≡ store
   -- "from its highest block down": the function that clears the tail, stopped after n blocks, has cleared the highest n of them and nothing else
-  pub downwards : (κs : Lfts 1) (x x' : Bor Bytes) (used count n used' count' n' : ℕ) (r : Bool) → x.now ≡ store → used ≡ used_of store → count ≡ tail_of store
+  pub downwards : (κs : Lfts 1) (x x' : MutBor Bytes) (used count n used' count' n' : ℕ) (r : Bool) → x.now ≡ store → used ≡ used_of store → count ≡ tail_of store
       → tail-reads.Learnt κs (x, (used, (count, (n, tt)))) r (x', (used', (count', (n', tt)))) → x'.now ≡ blank_from (used_of store + (tail_of store - n)) store
 
 pub record CodeHalfWritten : Type 2 where

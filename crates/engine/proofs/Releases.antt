@@ -85,7 +85,7 @@ pub record CodeReleases : Type 2 where
 
 -- there is one greatest
 greatest-one : (R : ℕ) (xs : List ℕ) (x y : ℕ) → Greatest R xs x → Greatest R xs y → x ≤ y
-greatest-one R xs x y G H = elim G.one_of_lem [ inl e ↦ omega (arith, e) | inr e ↦ H.most x e G.up_to_lem ]
+greatest-one R xs x y G H = elim G.one_of [ inl e ↦ omega (arith, e) | inr e ↦ H.most x e G.up_to ]
 
 is_greatest : (R : ℕ) (xs : List ℕ) (x : ℕ) → Greatest R xs x → x ≡ greatest R xs
 is_greatest R xs x G = omega (arith, greatest-one R xs x (greatest R xs) G (greatest_is R xs), greatest-one R xs (greatest R xs) x (greatest_is R xs) G)

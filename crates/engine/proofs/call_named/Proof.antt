@@ -269,7 +269,7 @@ same-length-28 c = search rules
 returns-17 : tie.Need-returns-in-Panel
 returns-17 c =
     let a = c.args in
-    (meant a.store.now a.copy.now a.bytes.now c.in-Panel.is (ap (λ (p : Place). answered (stands p) a.store.now a.copy.now) c.panel_place_holds.ensures.is), none_inside a.store.now a.copy.now c.panel_place_holds.result c.panel_place_holds.ensures.inside)
+    (meant a.store.now a.copy.now a.bytes.now c.in-Panel.is (ap (λ (p : Place). answered (stands p) a.store.now a.copy.now) c.panel_place.ensures.is), none_inside a.store.now a.copy.now c.panel_place.result c.panel_place.ensures.inside)
 
 pub call_named_spec : {M : Type 1} → statement M
 call_named_spec =

@@ -11,10 +11,10 @@ panel-place-requires : tie.Need-panel_place-place-requires
 panel-place-requires c κs = search rules
 
 part-at-requires : tie.Need-part_at-requires
-part-at-requires c κs = c.panel_place_holds.ensures.inside
+part-at-requires c κs = c.panel_place-place.ensures.inside
 
 returns : tie.Need-returns
-returns c = subst (λ (p : Place). PartAt c.args.store c.part_at.result (part_of p)) c.before.panel_place_holds.ensures.is c.part_at.ensures
+returns c = subst (λ (p : Place). PartAt c.args.store c.part_at.result (part_of p)) c.before.panel_place-place.ensures.is c.part_at.ensures
 
 pub panel_read_spec : {M : Type 1} → statement M
 panel_read_spec = tie.close (tie.spec panel-place-requires part-at-requires returns)

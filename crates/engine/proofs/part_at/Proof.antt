@@ -50,13 +50,13 @@ part-result-end-3 : tie.Need-slice_bounds-result-end-in-InCopy
 part-result-end-3 c = search rules
 
 returns : tie.Need-returns-in-Refused
-returns c = part_refused c.args.store c.result-1.given.0 c.in-Refused.field-0 (sym (ap place_of c.in-Refused.is))
+returns c = part_refused c.args.store c.in-Refused.field-0 (sym (ap place_of c.in-Refused.is))
 
 returns-2 : tie.Need-returns-in-InStore
-returns-2 c = part_there c.args.store c.result-in-InStore-1.given.0 c.in-InStore.p (sym (ap place_of c.in-InStore.is))
+returns-2 c = part_there c.args.store c.in-InStore.p (sym (ap place_of c.in-InStore.is))
 
 returns-3 : tie.Need-returns-in-InCopy
-returns-3 c = let s = c in part_none s.args.store c.result-in-InCopy-1.given.0 c.in-InCopy.field-0 (subst (Inside s.args.store.now []) c.in-InCopy.is s.requires) (sym (ap place_of c.in-InCopy.is))
+returns-3 c = let s = c in part_none s.args.store c.in-InCopy.field-0 (subst (Inside s.args.store.now []) c.in-InCopy.is s.requires) (sym (ap place_of c.in-InCopy.is))
 
 pub part_at_spec : {M : Type 1} → statement M
 part_at_spec =

@@ -60,15 +60,15 @@ part-result-end-3 c =
 
 returns : tie.Need-returns-in-Refused
 returns c =
-    shown-refused c.args.store c.args.copy c.result-1.given.0 c.in-Refused.field-0 (sym (ap place_of c.in-Refused.is) ∙ c.show_place-place.ensures.is)
+    shown-refused c.args.store c.args.copy c.in-Refused.field-0 (sym (ap place_of c.in-Refused.is) ∙ c.show_place-place.ensures.is)
 
 returns-2 : tie.Need-returns-in-InStore
 returns-2 c =
-    shown-there c.args.store c.args.copy c.result-in-InStore-1.given.0 c.in-InStore.p (sym (ap place_of c.in-InStore.is) ∙ c.show_place-place.ensures.is)
+    shown-there c.args.store c.args.copy c.in-InStore.p (sym (ap place_of c.in-InStore.is) ∙ c.show_place-place.ensures.is)
 
 returns-3 : tie.Need-returns-in-InCopy
 returns-3 c =
-    shown-own c.args.store c.args.copy c.result-in-InCopy-1.given.0 c.in-InCopy.p (sym (ap place_of c.in-InCopy.is) ∙ c.show_place-place.ensures.is)
+    shown-own c.args.store c.args.copy c.in-InCopy.p (sym (ap place_of c.in-InCopy.is) ∙ c.show_place-place.ensures.is)
 
 pub show_spec : {M : Type 1} → statement M
 show_spec =
