@@ -8,7 +8,7 @@ use mathlib.Core.Logic.{◌⊎◌}
 use mathlib.Core.Option.{none, some}
 use mathlib.Core.Path.{◌∙◌, ◌≡◌}
 use contract.Lifetimes.{Lfts}
-use denote.Ref.{Bor}
+use denote.Ref.{Bor, MutBor}
 use lib.ListN.{length, take}
 use Rattle.model.specs.Calls.{fresh_copy, fresh_store}
 use Rattle.model.specs.History.{Bytes}
@@ -34,14 +34,14 @@ use Rattle.rehearsal.proofs.run.Statement as run-statement
 -- THE STATEMENT
 pub record CodeFair : Type 2 where
   pub run_meets : (M : Type 1) → run-statement.statement M
-  pub fair : (κs : Lfts 2) (x y x' y' : Bor Bytes) (r : ℕ) → run-reads.Learnt κs (x, (y, tt)) r (x', (y', tt)) → 132 ≤ length y.now
+  pub fair : (κs : Lfts 2) (x : Bor Bytes) (y : MutBor Bytes) (x' : Bor Bytes) (y' : MutBor Bytes) (r : ℕ) → run-reads.Learnt κs (x, (y, tt)) r (x', (y', tt)) → 132 ≤ length y.now
       → (p : Plan) → length x.now ≤ 4_096 → plan_of (lines x.now) ≡ some p → FairText p (take r y'.now)
   -- "anything else prints `?`"
-  pub other : (κs : Lfts 2) (x y x' y' : Bor Bytes) (r : ℕ) → run-reads.Learnt κs (x, (y, tt)) r (x', (y', tt)) → 132 ≤ length y.now
+  pub other : (κs : Lfts 2) (x : Bor Bytes) (y : MutBor Bytes) (x' : Bor Bytes) (y' : MutBor Bytes) (r : ℕ) → run-reads.Learnt κs (x, (y, tt)) r (x', (y', tt)) → 132 ≤ length y.now
       → (4_096 < length x.now) ⊎ (plan_of (lines x.now) ≡ none) → take r y'.now ≡ no_plan
   -- "The real calls on a store of 121 blocks are used": the buffers that the code leaves are those that the day's calls leave, none of which is refused
   pub day_meets : (M : Type 1) → day-statement.statement M
-  pub day : (κs : Lfts 5) (l : List Setting) (n : ℕ) (s a b c d s' a' b' c' d' : Bor Bytes) (r : Day)
+  pub day : (κs : Lfts 5) (l : List Setting) (n : ℕ) (s a b c d s' a' b' c' d' : MutBor Bytes) (r : Day)
       → day-reads.Learnt κs (l, (n, (s, (a, (b, (c, (d, tt))))))) r (l, (n, (s', (a', (b', (c', (d', tt))))))) → can_run l n ≡ true
       → s.now ≡ fresh_store 121 → a.now ≡ fresh_copy 1 → b.now ≡ fresh_copy 2 → c.now ≡ fresh_copy 3 → d.now ≡ fresh_copy 4
       → Real l n (hall_in (pool s'.now a'.now b'.now c'.now d'.now) r)

@@ -8,7 +8,7 @@ use mathlib.Core.Option.{Option, none, some}
 use mathlib.Core.Path.{◌∙◌, ◌≡◌, ap, sym}
 use native.Mathlib.Omega.{arith}
 use contract.Lifetimes.{Lfts}
-use denote.Ref.{Bor}
+use denote.Ref.{Bor, MutBor}
 use lib.Dec.{eqb, lit≤, ltb}
 use lib.ListN.{drop, get_or, length}
 use Rattle.block.specs.Lists.{All}
@@ -43,7 +43,7 @@ use Rattle.replay.specs.Script.{script_ok, turns_of}
 
 -- a script that `replay` ran as code does: on this store and these copies it answers done, and leaves this store
 pub data Ran : Bytes → Bytes → Bytes → Bytes → Type 0 where
-  ran : {r : TheAnswer} (κs : Lfts 4) (s x y z s' x' y' z' : Bor Bytes) → ((i : ℕ) → get_or s.now i 0 < 256)
+  ran : {r : TheAnswer} (κs : Lfts 4) (s : Bor Bytes) (x y z : MutBor Bytes) (s' : Bor Bytes) (x' y' z' : MutBor Bytes) → ((i : ℕ) → get_or s.now i 0 < 256)
       → replay-reads.Learnt κs (s, (x, (y, (z, tt)))) r (s', (x', (y', (z', tt)))) → answer_of r ≡ done → Ran s.now x.now y.now x'.now
 
 -- the commits and releases of a script that are accepted on a fresh store of N blocks, in their common order
@@ -60,7 +60,7 @@ pub record ReplayOrdered : Type 2 where
   pub replay_meets : (M : Type 1) → replay-statement.statement M
   -- "Stores already written in another order are still accepted and read.": a store that is a layout of a history, in whatever order, is no reason to refuse a script (refusals 1 to 3), and the
   -- answers of a script that is run, those of read among them, are the machine's from that history
-  pub another : (κs : Lfts 4) (s x y z s' x' y' z' : Bor Bytes) (r : TheAnswer) → replay-reads.Learnt κs (s, (x, (y, (z, tt)))) r (s', (x', (y', (z', tt))))
+  pub another : (κs : Lfts 4) (s : Bor Bytes) (x y z : MutBor Bytes) (s' : Bor Bytes) (x' y' z' : MutBor Bytes) (r : TheAnswer) → replay-reads.Learnt κs (s, (x, (y, (z, tt)))) r (s', (x', (y', (z', tt))))
       → (g : Log) → LaidStore x.now g → Taken s.now (buffers_in x.now y.now) z.now (commits g) r z'.now
   -- "From now on a commit writes its changes by rising sheet number, and its content blocks in the order of the changes that point to them.": behind the blocks in use, which stay, in
   -- whatever order they are, the commits that were accepted and the releases; a tail that is left counts as zero blocks
@@ -125,7 +125,7 @@ not_for_store script store copies old n t e =
     (lit≤ tt, all_append (λ (c : Condition). 4 ≤ c.number) (lines_from store copies 0 4) (end ∷ []) (later_lines store copies 0 4) (lit≤ tt, tt))
     (sym (clear_first (store_conditions store) rest (clear (store_conditions store) t)) ∙ e)
 
-any_layout : (κs : Lfts 4) (s x y z s' x' y' z' : Bor Bytes) (r : TheAnswer) → replay-reads.Learnt κs (s, (x, (y, (z, tt)))) r (s', (x', (y', (z', tt))))
+any_layout : (κs : Lfts 4) (s : Bor Bytes) (x y z : MutBor Bytes) (s' : Bor Bytes) (x' y' z' : MutBor Bytes) (r : TheAnswer) → replay-reads.Learnt κs (s, (x, (y, (z, tt)))) r (s', (x', (y', (z', tt))))
     → (g : Log) → LaidStore x.now g → Taken s.now (buffers_in x.now y.now) z.now (commits g) r z'.now
 any_layout κs s x y z s' x' y' z' r L g l =
     let D = demand_two x.now [] in

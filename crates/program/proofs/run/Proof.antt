@@ -19,39 +19,36 @@ whole : (r : ℕ) (x o o₀ : List ℕ) → length x ≤ 495_737 → (r ≡ leng
 whole r x o o₀ h s =
     (s.0, (s.1, (omega (arith, s.0), λ g. ap (λ (k : ℕ). take k o) s.0 ∙ ap (take (length x)) s.1 ∙ taken x o₀ (omega arith))))
 
-slice-aggregate-say : tie.Need-slice-aggregate-say
-slice-aggregate-say c = search rules
-
 say-requires : tie.Need-say-requires
 say-requires c κs = search rules
 
-same_length : tie.Need-same-length
+same_length : tie.Need-shape_of-out-then-input-gt4096
 same_length c = search rules
 
-returns : tie.Need-returns
+returns : tie.Need-returns-then-input-gt4096
 returns c =
-    let a = c.before.before.before.before.before.before.before.before.args in
-    let x = c.before.before.say in
+    let a = c.args in
+    let x = c.say in
     let i = a.input.now in
-    whole x.result (output i) x.new.0 a.out.now (output-room i) (said_as x.result 0 unknown (output i) x.new.0 a.out.now x.ensures.0 x.ensures.1 (sym (too_long i c.before.before.before.before.before.if1.true)))
+    whole x.result (output i) x.new.out a.out.now (output-room i) (said_as x.result 0 unknown (output i) x.new.out a.out.now x.ensures.0 x.ensures.1 (sym (too_long i c.if-input-gt4096.true)))
 
-run-lines-requires : tie.Need-run-lines-requires
+run-lines-requires : tie.Need-run_lines-requires
 run-lines-requires c κs = search rules
 
-same-length-2 : tie.Need-same-length-2
+same-length-2 : tie.Need-shape_of-out
 same-length-2 c = search rules
 
-returns-2 : tie.Need-returns-2
+returns-2 : tie.Need-returns
 returns-2 c =
-    let a = c.before.before.before.before.before.before.before.args in
-    let x = c.before.before.run-lines in
-    whole x.result (output a.input.now) x.new.1.0 a.out.now (output-room a.input.now) x.ensures
+    let a = c.args in
+    let x = c.run_lines in
+    whole x.result (output a.input.now) x.new.out a.out.now (output-room a.input.now) x.ensures
 
 pub run_spec : {M : Type 1} → statement M
 run_spec =
     tie.close
     (tie.spec
-    slice-aggregate-say
+
     say-requires
     same_length
     returns

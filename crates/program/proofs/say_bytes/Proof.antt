@@ -12,49 +12,46 @@ use Rattle.program.proofs.Printing.{said, said-length}
 use Rattle.program.proofs.say_bytes.Statement.{statement}
 use Rattle.program.proofs.say_bytes.Tie as tie
 
-slice-aggregate-put-bytes : tie.Need-slice-aggregate-put-bytes
-slice-aggregate-put-bytes c = search rules
-
-put-bytes-requires : tie.Need-put-bytes-requires
+put-bytes-requires : tie.Need-put_bytes-requires
 put-bytes-requires c κs = search rules
 
-add-p : tie.Need-overflow-add-p
+add-p : tie.Need-overflow_add-p
 add-p c = search rules
 
-put-hex-requires : tie.Need-put-hex-requires
+put-hex-requires : tie.Need-put_hex-k-requires
 put-hex-requires c κs = search rules
 
-add-put : tie.Need-overflow-add-put
-add-put c = omega (arith, c.before.before.before.put-hex.ensures.0, length_hex c.before.before.before.before.before.before.before.before.before.before.before.before.args.s.now)
+add-put : tie.Need-overflow_add-p-2
+add-put c = omega (arith, c.put_hex-k.ensures.0, length_hex c.args.s.now)
 
 put-requires : tie.Need-put-requires
 put-requires c κs = search rules
 
-add-result : tie.Need-overflow-add-result
-add-result c = omega (arith, c.before.before.before.before.before.before.put-hex.ensures.0, length_hex c.before.before.before.before.before.before.before.before.before.before.before.before.before.before.before.args.s.now)
+add-result : tie.Need-overflow_add-result
+add-result c = omega (arith, c.put_hex-k.ensures.0, length_hex c.args.s.now)
 
-same_length : tie.Need-same-length
+same_length : tie.Need-shape_of-out
 same_length c = search rules
 
 returns : tie.Need-returns
 returns c =
-    let a = c.before.before.before.before.before.before.before.before.before.before.before.before.before.before.before.args in
-    let d = c.before.before.before.before.before.before.put-hex in
+    let a = c.args in
+    let d = c.put_hex-k in
     let w : List ℕ = 111 ∷ 107 ∷ 32 ∷ [] in
     let t = hex_text a.s.now in (
       said-length w t 10 d.result d.ensures.0 refl,
       (
-        said w t a.out.now c.before.before.before.before.before.before.before.before.before.before.put-bytes.new.0 d.new.0 c.before.before.put.new.0 10 a.at (a.at + 3) refl c.before.before.before.before.before.before.before.before.before.before.put-bytes.ensures d.ensures.1
-            (c.before.before.put.ensures ∙ ap (λ k. set d.new.0 (a.at + 3 + k) 10) d.ensures.0),
+        said w t a.out.now c.put_bytes.new.s d.new.out c.put.new.s 10 a.at (a.at + 3) refl c.put_bytes.ensures d.ensures.1
+            (c.put.ensures ∙ ap (λ k. set d.new.out (a.at + 3 + k) 10) d.ensures.0),
         omega (arith, d.ensures.0, length_hex a.s.now),
       ),
     )
 
-pub say-bytes-spec : {M : Type 1} → statement M
-say-bytes-spec =
+pub say_bytes_spec : {M : Type 1} → statement M
+say_bytes_spec =
     tie.close
     (tie.spec
-    slice-aggregate-put-bytes
+
     put-bytes-requires
     add-p
     put-hex-requires

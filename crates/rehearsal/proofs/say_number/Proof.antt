@@ -8,33 +8,33 @@ use Rattle.rehearsal.proofs.Printing.{printed_byte}
 use Rattle.rehearsal.proofs.say_number.Statement.{statement}
 use Rattle.rehearsal.proofs.say_number.Tie as tie
 
-put-decimal-requires : tie.Need-put-decimal-requires
+put-decimal-requires : tie.Need-put_decimal-k-requires
 put-decimal-requires c κs = search rules
 
-add-put : tie.Need-overflow-add-put
-add-put c = omega (arith, c.before.before.before.put-decimal.ensures.0, length_decimal 10 c.before.before.before.before.before.before.args.n)
+add-put : tie.Need-overflow_add-at
+add-put c = omega (arith, c.put_decimal-k.ensures.0, length_decimal 10 c.args.n)
 
 put-requires : tie.Need-put-requires
 put-requires c κs = search rules
 
-add-result : tie.Need-overflow-add-result
-add-result c = omega (arith, c.before.before.before.before.before.before.put-decimal.ensures.0, length_decimal 10 c.before.before.before.before.before.before.before.before.before.args.n)
+add-result : tie.Need-overflow_add-result
+add-result c = omega (arith, c.put_decimal-k.ensures.0, length_decimal 10 c.args.n)
 
-add-result-2 : tie.Need-overflow-add-result-2
-add-result-2 c = omega (arith, c.before.before.before.before.before.before.put-decimal.ensures.0, length_decimal 10 c.before.before.before.before.before.before.before.before.before.args.n)
+add-result-2 : tie.Need-overflow_add-result-2
+add-result-2 c = omega (arith, c.put_decimal-k.ensures.0, length_decimal 10 c.args.n)
 
-same_length : tie.Need-same-length
+same_length : tie.Need-shape_of-out
 same_length c = search rules
 
 returns : tie.Need-returns
 returns c =
-    let a = c.before.before.before.before.before.before.before.before.before.args in
-    let d = c.before.before.before.before.before.before.put-decimal in
-    let p = c.before.before.put in
-    (printed_byte a.at (decimal_of a.n) a.out.now d.new.0 p.new.0 d.result a.last d.ensures.0 d.ensures.1 p.ensures, omega (arith, d.ensures.0, length_decimal 10 a.n))
+    let a = c.args in
+    let d = c.put_decimal-k in
+    let p = c.put in
+    (printed_byte a.at (decimal_of a.n) a.out.now d.new.out p.new.s d.result a.last d.ensures.0 d.ensures.1 p.ensures, omega (arith, d.ensures.0, length_decimal 10 a.n))
 
-pub say-number-spec : {M : Type 1} → statement M
-say-number-spec =
+pub say_number_spec : {M : Type 1} → statement M
+say_number_spec =
     tie.close
     (tie.spec
     put-decimal-requires

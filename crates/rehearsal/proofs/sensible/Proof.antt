@@ -7,7 +7,7 @@ use Rattle.rehearsal.proofs.sensible.Statement.{statement}
 use Rattle.rehearsal.proofs.sensible.Tie as tie
 
 returns : tie.Need-returns
-returns c = ap₂ ◌&&◌ c.before.in_range_lem.ensures c.in-range2.ensures
+returns c = ap₂ ◌&&◌ c.in_range.ensures c.in_range-2.ensures
 
-pub sensible-spec : {M : Type 1} → statement M
-sensible-spec = tie.close (tie.spec (λ c κs. search rules) (λ c κs. search rules) returns)
+pub sensible_spec : {M : Type 1} → statement M
+sensible_spec = tie.close (tie.spec (λ c κs. search rules) (λ c κs. search rules) returns)

@@ -9,23 +9,23 @@ use Rattle.text.specs.Text.{numbered}
 use Rattle.rehearsal.proofs.small.Statement.{statement}
 use Rattle.rehearsal.proofs.small.Tie as tie
 
-number-requires : tie.Need-number-requires
+number-requires : tie.Need-number-x-requires
 number-requires c κs = search rules
 
-enum_told : tie.Need-enum-told
+enum_told : tie.Need-enum_told-1
 enum_told c = search rules
 
-enum-known-x : tie.Need-enum-known-x
+enum-known-x : tie.Need-enum_known-x
 enum-known-x c = search rules
 
-returns : tie.Need-returns
-returns c = let x = c.before.before.x.given in let n = x.0.0 in let e = sym c.before.before.before.before.number.ensures ∙ ap numbered x.1 in sym (ap or_zero e ∙ ap (λ (b : Bool). cond b n 0) (le-leb n 60 c.if1.true))
+returns : tie.Need-returns-then-n-le60
+returns c = let n = c.in-Is.n in let e = sym c.number-x.ensures ∙ ap numbered c.in-Is.is in sym (ap or_zero e ∙ ap (λ (b : Bool). cond b n 0) (le-leb n 60 c.if-n-le60.true))
 
-returns-2 : tie.Need-returns-2
-returns-2 c = sym (ap or_zero (sym c.before.before.number.ensures ∙ ap numbered c.enum_told.given.1))
+returns-2 : tie.Need-returns-in-NotNum
+returns-2 c = sym (ap or_zero (sym c.number-x.ensures ∙ ap numbered c.in-NotNum.is))
 
-returns-3 : tie.Need-returns-3
-returns-3 c = let x = c.before.before.x.given in let n = x.0.0 in let e = sym c.before.before.before.before.number.ensures ∙ ap numbered x.1 in sym (ap or_zero e ∙ ap (λ (b : Bool). cond b n 0) (lt-leb n 60 c.if1.false))
+returns-3 : tie.Need-returns-else-n-le60
+returns-3 c = let n = c.in-Is.n in let e = sym c.number-x.ensures ∙ ap numbered c.in-Is.is in sym (ap or_zero e ∙ ap (λ (b : Bool). cond b n 0) (lt-leb n 60 c.if-n-le60.false))
 
 pub small_spec : {M : Type 1} → statement M
 small_spec =

@@ -5,7 +5,7 @@ use Rattle.replay.proofs.Writing.{answered, done_record, refused_record, revisio
 use Rattle.replay.proofs.put_answer.Statement.{statement}
 use Rattle.replay.proofs.put_answer.Tie as tie
 
-enum-known-answer : tie.Need-enum-known-answer
+enum-known-answer : tie.Need-enum_known-answer
 enum-known-answer c = search rules
 
 number-requires : tie.Need-number-requires
@@ -14,68 +14,68 @@ number-requires c κs = search rules
 put32-requires : tie.Need-put32-requires
 put32-requires c κs = search rules
 
-enum_told : tie.Need-enum-told
+enum_told : tie.Need-enum_told-1
 enum_told c = search rules
 
-enum-known-answer-2 : tie.Need-enum-known-answer-2
+enum-known-answer-2 : tie.Need-enum_known-answer-in-Revision-1
 enum-known-answer-2 c = search rules
 
-put32-requires-2 : tie.Need-put32-requires-2
+put32-requires-2 : tie.Need-put32-requires-in-Revision
 put32-requires-2 c κs = search rules
 
-enum-known-answer-3 : tie.Need-enum-known-answer-3
+enum-known-answer-3 : tie.Need-enum_known-answer-in-Status-1
 enum-known-answer-3 c = search rules
 
-put-standing-requires : tie.Need-put-standing-requires
+put-standing-requires : tie.Need-put_standing-requires
 put-standing-requires c κs = search rules
 
-enum-known-answer-4 : tie.Need-enum-known-answer-4
+enum-known-answer-4 : tie.Need-enum_known-answer-in-Logged-1
 enum-known-answer-4 c = search rules
 
-put-log-requires : tie.Need-put-log-requires
+put-log-requires : tie.Need-put_log-requires
 put-log-requires c κs = search rules
 
-enum-told-2 : tie.Need-enum-told-2
+enum-told-2 : tie.Need-enum_told-in-Stopped
 enum-told-2 c = search rules
 
-put32-requires-3 : tie.Need-put32-requires-3
+put32-requires-3 : tie.Need-put32-requires-in-Stopped
 put32-requires-3 c κs = search rules
 
-same_length : tie.Need-same-length
+same_length : tie.Need-shape_of-rec-in-Refused
 same_length c = search rules
 
-returns : tie.Need-returns
-returns c = answered c.before.before.before.before.before.before.answer.given.1 (refused_record c.before.before.before.before.before.before.before.before.before.requires c.before.before.before.before.before.before.answer.given.0.0 c.before.before.before.number.ensures c.before.before.put32.ensures)
+returns : tie.Need-returns-in-Refused
+returns c = answered c.in-Refused.is (refused_record c.requires c.in-Refused.k c.number.ensures c.put32.ensures)
 
-returns-2 : tie.Need-returns-2
-returns-2 c = answered c.enum_told.given.1 (done_record c.before.before.before.requires)
+returns-2 : tie.Need-returns-in-Done
+returns-2 c = answered c.in-Done.is (done_record c.requires)
 
-same-length-2 : tie.Need-same-length-2
+same-length-2 : tie.Need-shape_of-rec-in-Revision
 same-length-2 c = search rules
 
-returns-3 : tie.Need-returns-3
-returns-3 c = answered c.before.before.before.before.before.answer2.given.1 (revision_record c.before.before.before.before.before.before.before.before.requires c.before.before.before.before.before.answer2.given.0.0 c.before.before.put322.ensures)
+returns-3 : tie.Need-returns-in-Revision
+returns-3 c = answered c.in-Revision.is (revision_record c.requires c.in-Revision.n c.put32-in-Revision.ensures)
 
-same-length-3 : tie.Need-same-length-3
+same-length-3 : tie.Need-shape_of-rec-in-Status
 same-length-3 c = search rules
 
-returns-4 : tie.Need-returns-4
-returns-4 c = answered c.before.before.before.before.before.answer3.given.1 c.before.before.put-standing.ensures
+returns-4 : tie.Need-returns-in-Status
+returns-4 c = answered c.in-Status.is c.put_standing.ensures
 
-same-length-4 : tie.Need-same-length-4
+same-length-4 : tie.Need-shape_of-rec-in-Logged
 same-length-4 c = search rules
 
-returns-5 : tie.Need-returns-5
-returns-5 c = answered c.before.before.before.before.before.answer4.given.1 c.before.before.put-log.ensures
+returns-5 : tie.Need-returns-in-Logged
+returns-5 c = answered c.in-Logged.is c.put_log.ensures
 
-same-length-5 : tie.Need-same-length-5
+same-length-5 : tie.Need-shape_of-rec-in-Stopped
 same-length-5 c = search rules
 
-returns-6 : tie.Need-returns-6
-returns-6 c = answered c.before.before.before.before.enum-told2.given.1 (stopped_record c.before.before.before.before.before.before.before.requires c.before.before.put323.ensures)
+returns-6 : tie.Need-returns-in-Stopped
+returns-6 c = answered c.in-Stopped.is (stopped_record c.requires c.put32-in-Stopped.ensures)
 
-pub put-answer-spec : {M : Type 1} → statement M
-put-answer-spec =
+pub put_answer_spec : {M : Type 1} → statement M
+put_answer_spec =
     tie.close
     (tie.spec
     enum-known-answer

@@ -14,34 +14,34 @@ put32-requires-2 c κs = search rules
 put32-requires-3 : tie.Need-put32-requires-3
 put32-requires-3 c κs = search rules
 
-action-number-requires : tie.Need-action-number-requires
+action-number-requires : tie.Need-action_number-requires
 action-number-requires c κs = search rules
 
 put32-requires-4 : tie.Need-put32-requires-4
 put32-requires-4 c κs = search rules
 
-source-sheet-requires : tie.Need-source-sheet-requires
+source-sheet-requires : tie.Need-source_sheet-requires
 source-sheet-requires c κs = search rules
 
 put32-requires-5 : tie.Need-put32-requires-5
 put32-requires-5 c κs = search rules
 
-source-revision-requires : tie.Need-source-revision-requires
+source-revision-requires : tie.Need-source_revision-requires
 source-revision-requires c κs = search rules
 
 put32-requires-6 : tie.Need-put32-requires-6
 put32-requires-6 c κs = search rules
 
-same_length : tie.Need-same-length
+same_length : tie.Need-shape_of-rec
 same_length c = search rules
 
 returns : tie.Need-returns
 returns c =
-    log_record c.before.before.before.before.before.before.before.before.before.before.before.before.before.before.before.before.before.before.before.before.before.before.before.before.before.before.before.before.requires c.before.before.before.before.before.before.before.before.before.before.before.before.before.before.before.before.before.before.before.before.before.before.before.before.before.before.before.before.args.«entry» c.before.before.before.before.before.before.before.before.before.before.before.before.before.action-number.ensures c.before.before.before.before.before.before.before.before.source_sheet_lem.ensures c.before.before.before.source-revision.ensures c.before.before.before.before.before.before.before.before.before.before.before.before.before.before.before.before.before.before.before.before.before.before.before.before.before.put32.ensures c.before.before.before.before.before.before.before.before.before.before.before.before.before.before.before.before.before.before.before.before.before.put322.ensures c.before.before.before.before.before.before.before.before.before.before.before.before.before.before.before.before.before.put323.ensures
-    c.before.before.before.before.before.before.before.before.before.before.before.before.put324.ensures c.before.before.before.before.before.before.before.put325.ensures c.before.before.put326.ensures
+    log_record c.requires c.args.«entry» c.action_number.ensures c.source_sheet.ensures c.source_revision.ensures c.put32.ensures c.put32-2.ensures c.put32-3.ensures
+    c.put32-4.ensures c.put32-5.ensures c.put32-6.ensures
 
-pub put-log-spec : {M : Type 1} → statement M
-put-log-spec =
+pub put_log_spec : {M : Type 1} → statement M
+put_log_spec =
     tie.close
     (tie.spec
     put32-requires

@@ -8,25 +8,25 @@ use Rattle.replay.proofs.put_part.Tie as tie
 put32-requires : tie.Need-put32-requires
 put32-requires c κs = search rules
 
-cast-put32 : tie.Need-overflow-cast-put32
+cast-put32 : tie.Need-overflow_cast-bytes
 cast-put32 c = search rules
 
 put32-requires-2 : tie.Need-put32-requires-2
 put32-requires-2 c κs = search rules
 
-put-bytes-requires : tie.Need-put-bytes-requires
+put-bytes-requires : tie.Need-put_bytes-requires
 put-bytes-requires c κs = search rules
 
-same_length : tie.Need-same-length
+same_length : tie.Need-shape_of-rec
 same_length c = search rules
 
 returns : tie.Need-returns
 returns c =
-    let k = c.before.before.before.before.before.before.before.before.before.before.before.before.before.before in
-    bytes_record k.requires.0 k.args.bytes.now k.args.revision c.before.before.before.before.before.before.before.before.before.before.put32.ensures c.before.before.before.before.before.before.put322.ensures c.before.before.put-bytes.ensures
+    let k = c in
+    bytes_record k.requires.0 k.args.bytes.now k.args.revision c.put32.ensures c.put32-2.ensures c.put_bytes.ensures
 
-pub put-part-spec : {M : Type 1} → statement M
-put-part-spec =
+pub put_part_spec : {M : Type 1} → statement M
+put_part_spec =
     tie.close
     (tie.spec
     put32-requires

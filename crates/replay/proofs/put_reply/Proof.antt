@@ -9,32 +9,32 @@ use Rattle.replay.proofs.put_reply.Tie as tie
 clear-requires : tie.Need-clear-requires
 clear-requires c κs = search rules
 
-enum-known-reply : tie.Need-enum-known-reply
+enum-known-reply : tie.Need-enum_known-reply
 enum-known-reply c = search rules
 
-put-answer-requires : tie.Need-put-answer-requires
-put-answer-requires c κs = cleared c.before.before.before.before.before.before.before.before.before.before.before.args.rec.now c.before.before.before.before.before.before.before.before.before.before.before.requires.0 c.before.before.before.before.before.before.clear.ensures
+put-answer-requires : tie.Need-put_answer-requires
+put-answer-requires c κs = cleared c.args.rec.now c.requires.0 c.clear.ensures
 
-enum-known-reply-2 : tie.Need-enum-known-reply-2
+enum-known-reply-2 : tie.Need-enum_known-reply-in-At-1
 enum-known-reply-2 c = search rules
 
-put-place-requires : tie.Need-put-place-requires
-put-place-requires c κs = (cleared c.before.before.before.before.before.before.before.before.before.before.before.args.rec.now c.before.before.before.before.before.before.before.before.before.before.before.requires.0 c.before.before.before.before.before.before.clear.ensures, still_within c.before.before.reply2.given.1 c.before.before.before.before.before.before.before.before.before.before.before.requires.1)
+put-place-requires : tie.Need-put_place-requires
+put-place-requires c κs = (cleared c.args.rec.now c.requires.0 c.clear.ensures, still_within c.in-At.is c.requires.1)
 
-same_length : tie.Need-same-length
+same_length : tie.Need-shape_of-rec-in-Said
 same_length c = search rules
 
-returns : tie.Need-returns
-returns c = reply_record c.before.before.before.before.before.before.before.before.before.before.before.before.before.before.args.store.now c.before.before.before.before.before.before.before.before.before.before.before.before.before.before.args.copy.now c.before.before.before.before.before.reply.given.1 c.before.before.put-answer.ensures
+returns : tie.Need-returns-in-Said
+returns c = reply_record c.args.store.now c.args.copy.now c.in-Said.is c.put_answer.ensures
 
-same-length-2 : tie.Need-same-length-2
+same-length-2 : tie.Need-shape_of-rec-in-At
 same-length-2 c = search rules
 
-returns-2 : tie.Need-returns-2
-returns-2 c = reply_record c.before.before.before.before.before.before.before.before.before.before.before.before.before.before.args.store.now c.before.before.before.before.before.before.before.before.before.before.before.before.before.before.args.copy.now c.before.before.before.before.before.reply2.given.1 c.before.before.put-place.ensures
+returns-2 : tie.Need-returns-in-At
+returns-2 c = reply_record c.args.store.now c.args.copy.now c.in-At.is c.put_place.ensures
 
-pub put-reply-spec : {M : Type 1} → statement M
-put-reply-spec =
+pub put_reply_spec : {M : Type 1} → statement M
+put_reply_spec =
     tie.close
     (tie.spec
     clear-requires

@@ -11,13 +11,13 @@ put32-requires c κs = search rules
 put32-requires-2 : tie.Need-put32-requires-2
 put32-requires-2 c κs = search rules
 
-same_length : tie.Need-same-length
+same_length : tie.Need-shape_of-rec
 same_length c = search rules
 
 returns : tie.Need-returns
 returns c =
-    let k = c.before.before.before.before.before.before.before.before.before in
-    status_record k.requires k.args.standing.status k.args.standing.revision c.before.before.before.before.before.before.put32.ensures c.before.before.put322.ensures
+    let k = c in
+    status_record k.requires k.args.standing.status k.args.standing.revision c.put32.ensures c.put32-2.ensures
 
-pub put-standing-spec : {M : Type 1} → statement M
-put-standing-spec = tie.close (tie.spec put32-requires put32-requires-2 same_length returns)
+pub put_standing_spec : {M : Type 1} → statement M
+put_standing_spec = tie.close (tie.spec put32-requires put32-requires-2 same_length returns)
