@@ -126,7 +126,6 @@ answer_line_spec =
     enum-known-said-2
     get-requires
     enum_told
-
     say-requires
     same_length
     same-length-2

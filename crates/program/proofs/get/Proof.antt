@@ -115,7 +115,6 @@ get_spec =
     read-place-requires
     enum-known-place
     number-requires
-
     say-number-requires
     enum-known-place-2
     add-e

@@ -48,7 +48,6 @@ pub run_spec : {M : Type 1} → statement M
 run_spec =
     tie.close
     (tie.spec
-
     say-requires
     same_length
     returns

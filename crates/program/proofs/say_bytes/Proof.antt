@@ -51,7 +51,6 @@ pub say_bytes_spec : {M : Type 1} → statement M
 say_bytes_spec =
     tie.close
     (tie.spec
-
     put-bytes-requires
     add-p
     put-hex-requires

@@ -8,48 +8,48 @@ use Rattle.sheetstore.proofs.answer_numbers.Statement.{statement}
 use Rattle.sheetstore.specs.Numbers.{valued}
 use Rattle.sheetstore.proofs.answer_numbers.Tie as tie
 
-enum-known-answer : tie.Need-enum-known-answer
+enum-known-answer : tie.Need-enum_known-answer
 enum-known-answer c = search rules
 
-number-requires : tie.Need-number-requires
+number-requires : tie.Need-number-refusal-requires
 number-requires c κs = search rules
 
-enum_told : tie.Need-enum-told
+enum_told : tie.Need-enum_told-1
 enum_told c = search rules
 
-enum-known-answer-2 : tie.Need-enum-known-answer-2
+enum-known-answer-2 : tie.Need-enum_known-answer-in-Revision-1
 enum-known-answer-2 c = search rules
 
-enum-told-2 : tie.Need-enum-told-2
+enum-told-2 : tie.Need-enum_told-in-Status
 enum-told-2 c = search rules
 
-enum-told-3 : tie.Need-enum-told-3
+enum-told-3 : tie.Need-enum_told-in-Logged
 enum-told-3 c = search rules
 
-enum-told-4 : tie.Need-enum-told-4
+enum-told-4 : tie.Need-enum_told-in-Stopped
 enum-told-4 c = search rules
 
-returns : tie.Need-returns
+returns : tie.Need-returns-in-Refused
 returns c =
-    ap (λ (n : ℕ). valued n 0) c.number.ensures ∙ answer_known c.before.before.answer.given.1
+    ap (λ (n : ℕ). valued n 0) c.number-refusal.ensures ∙ answer_known c.in-Refused.is
 
-returns-2 : tie.Need-returns-2
-returns-2 c = answer_known c.enum_told.given.1
+returns-2 : tie.Need-returns-in-Done
+returns-2 c = answer_known c.in-Done.is
 
-returns-3 : tie.Need-returns-3
-returns-3 c = answer_known c.before.answer2.given.1
+returns-3 : tie.Need-returns-in-Revision
+returns-3 c = answer_known c.in-Revision.is
 
-returns-4 : tie.Need-returns-4
-returns-4 c = answer_known c.enum-told2.given.1
+returns-4 : tie.Need-returns-in-Status
+returns-4 c = answer_known c.in-Status.is
 
-returns-5 : tie.Need-returns-5
-returns-5 c = answer_known c.enum-told3.given.1
+returns-5 : tie.Need-returns-in-Logged
+returns-5 c = answer_known c.in-Logged.is
 
-returns-6 : tie.Need-returns-6
-returns-6 c = answer_known c.enum-told4.given.1
+returns-6 : tie.Need-returns-in-Stopped
+returns-6 c = answer_known c.in-Stopped.is
 
-pub answer-numbers-spec : {M : Type 1} → statement M
-answer-numbers-spec =
+pub answer_numbers_spec : {M : Type 1} → statement M
+answer_numbers_spec =
     tie.close
     (tie.spec
     enum-known-answer

@@ -7,7 +7,7 @@ use Rattle.sheetstore.proofs.log_numbers.Statement.{statement}
 use Rattle.sheetstore.specs.Numbers.{no_log}
 use Rattle.sheetstore.proofs.log_numbers.Tie as tie
 
-enum-known-answer : tie.Need-enum-known-answer
+enum-known-answer : tie.Need-enum_known-answer
 enum-known-answer c = search rules
 
 number-requires : tie.Need-number-requires
@@ -16,57 +16,57 @@ number-requires c κs = search rules
 untold-requires : tie.Need-untold-requires
 untold-requires c κs = search rules
 
-enum_told : tie.Need-enum-told
+enum_told : tie.Need-enum_told-1
 enum_told c = search rules
 
-untold-requires-2 : tie.Need-untold-requires-2
+untold-requires-2 : tie.Need-untold-requires-in-Done
 untold-requires-2 c κs = search rules
 
-enum-told-2 : tie.Need-enum-told-2
+enum-told-2 : tie.Need-enum_told-in-Revision
 enum-told-2 c = search rules
 
-untold-requires-3 : tie.Need-untold-requires-3
+untold-requires-3 : tie.Need-untold-requires-in-Revision
 untold-requires-3 c κs = search rules
 
-enum-told-3 : tie.Need-enum-told-3
+enum-told-3 : tie.Need-enum_told-in-Status
 enum-told-3 c = search rules
 
-untold-requires-4 : tie.Need-untold-requires-4
+untold-requires-4 : tie.Need-untold-requires-in-Status
 untold-requires-4 c κs = search rules
 
-enum-known-answer-2 : tie.Need-enum-known-answer-2
+enum-known-answer-2 : tie.Need-enum_known-answer-in-Logged-1
 enum-known-answer-2 c = search rules
 
 told-requires : tie.Need-told-requires
 told-requires c κs = search rules
 
-enum-told-4 : tie.Need-enum-told-4
+enum-told-4 : tie.Need-enum_told-in-Stopped
 enum-told-4 c = search rules
 
-untold-requires-5 : tie.Need-untold-requires-5
+untold-requires-5 : tie.Need-untold-requires-in-Stopped
 untold-requires-5 c κs = search rules
 
-returns : tie.Need-returns
+returns : tie.Need-returns-in-Refused
 returns c =
-    c.untold.ensures ∙ ap no_log c.before.number.ensures ∙ log_known c.before.before.before.answer.given.1
+    c.untold.ensures ∙ ap no_log c.number.ensures ∙ log_known c.in-Refused.is
 
-returns-2 : tie.Need-returns-2
-returns-2 c = c.untold2.ensures ∙ log_known c.before.enum_told.given.1
+returns-2 : tie.Need-returns-in-Done
+returns-2 c = c.untold-in-Done.ensures ∙ log_known c.in-Done.is
 
-returns-3 : tie.Need-returns-3
-returns-3 c = c.untold3.ensures ∙ log_known c.before.enum-told2.given.1
+returns-3 : tie.Need-returns-in-Revision
+returns-3 c = c.untold-in-Revision.ensures ∙ log_known c.in-Revision.is
 
-returns-4 : tie.Need-returns-4
-returns-4 c = c.untold4.ensures ∙ log_known c.before.enum-told3.given.1
+returns-4 : tie.Need-returns-in-Status
+returns-4 c = c.untold-in-Status.ensures ∙ log_known c.in-Status.is
 
-returns-5 : tie.Need-returns-5
-returns-5 c = c.told.ensures ∙ log_known c.before.before.answer2.given.1
+returns-5 : tie.Need-returns-in-Logged
+returns-5 c = c.told.ensures ∙ log_known c.in-Logged.is
 
-returns-6 : tie.Need-returns-6
-returns-6 c = c.untold5.ensures ∙ log_known c.before.enum-told4.given.1
+returns-6 : tie.Need-returns-in-Stopped
+returns-6 c = c.untold-in-Stopped.ensures ∙ log_known c.in-Stopped.is
 
-pub log-numbers-spec : {M : Type 1} → statement M
-log-numbers-spec =
+pub log_numbers_spec : {M : Type 1} → statement M
+log_numbers_spec =
     tie.close
     (tie.spec
     enum-known-answer

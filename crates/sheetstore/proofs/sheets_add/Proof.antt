@@ -10,15 +10,15 @@ use Rattle.sheetstore.proofs.sheets_add.Tie as tie
 add-requires : tie.Need-add-requires
 add-requires c κs = search rules
 
-answer-numbers-requires : tie.Need-answer-numbers-requires
+answer-numbers-requires : tie.Need-answer_numbers-requires
 answer-numbers-requires c κs = search rules
 
-same_length : tie.Need-same-length
+same_length : tie.Need-shape_of-copy
 same_length c = search rules
 
 returns : tie.Need-returns
 returns c =
-    ap (λ (x : SheetsAnswer). left x c.before.before.before.add.new.1.0) c.answer-numbers.ensures ∙ ap copy_numbers c.before.before.before.add.ensures
+    ap (λ (x : SheetsAnswer). left x c.add.new.copy) c.answer_numbers.ensures ∙ ap copy_numbers c.add.ensures
 
-pub sheets-add-spec : {M : Type 1} → statement M
-sheets-add-spec = tie.close (tie.spec add-requires answer-numbers-requires same_length returns)
+pub sheets_add_spec : {M : Type 1} → statement M
+sheets_add_spec = tie.close (tie.spec add-requires answer-numbers-requires same_length returns)

@@ -10,16 +10,16 @@ use Rattle.sheetstore.proofs.sheets_clear.Tie as tie
 clear-requires : tie.Need-clear-requires
 clear-requires c κs = search rules
 
-answer-numbers-requires : tie.Need-answer-numbers-requires
+answer-numbers-requires : tie.Need-answer_numbers-requires
 answer-numbers-requires c κs = search rules
 
-same_length : tie.Need-same-length
+same_length : tie.Need-shape_of-store
 same_length c = search rules
 
 returns : tie.Need-returns
 returns c =
-    ap (λ (x : SheetsAnswer). left x c.before.before.before.clear.new.0) c.answer-numbers.ensures ∙ ap left_numbers c.before.before.before.clear.ensures
+    ap (λ (x : SheetsAnswer). left x c.clear.new.store) c.answer_numbers.ensures ∙ ap left_numbers c.clear.ensures
 
-pub sheets-clear-spec : {M : Type 1} → statement M
-sheets-clear-spec =
+pub sheets_clear_spec : {M : Type 1} → statement M
+sheets_clear_spec =
     tie.close (tie.spec clear-requires answer-numbers-requires same_length returns)

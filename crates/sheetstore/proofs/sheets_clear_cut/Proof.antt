@@ -7,19 +7,19 @@ use Rattle.sheetstore.specs.Numbers.{cut_left, cut_left_numbers}
 use Rattle.sheetstore.specs.declared.SheetsCutAnswer.{SheetsCutAnswer}
 use Rattle.sheetstore.proofs.sheets_clear_cut.Tie as tie
 
-clear-cut-requires : tie.Need-clear-cut-requires
+clear-cut-requires : tie.Need-clear_cut-requires
 clear-cut-requires c κs = search rules
 
-cut-numbers-requires : tie.Need-cut-numbers-requires
+cut-numbers-requires : tie.Need-cut_numbers-requires
 cut-numbers-requires c κs = search rules
 
-same_length : tie.Need-same-length
+same_length : tie.Need-shape_of-store
 same_length c = search rules
 
 returns : tie.Need-returns
 returns c =
-    ap (λ (x : SheetsCutAnswer). cut_left x c.before.before.before.clear_cut_lem.new.0) c.cut-numbers.ensures ∙ ap cut_left_numbers c.before.before.before.clear_cut_lem.ensures
+    ap (λ (x : SheetsCutAnswer). cut_left x c.clear_cut.new.store) c.cut_numbers.ensures ∙ ap cut_left_numbers c.clear_cut.ensures
 
-pub sheets-clear-cut-spec : {M : Type 1} → statement M
-sheets-clear-cut-spec =
+pub sheets_clear_cut_spec : {M : Type 1} → statement M
+sheets_clear_cut_spec =
     tie.close (tie.spec clear-cut-requires cut-numbers-requires same_length returns)

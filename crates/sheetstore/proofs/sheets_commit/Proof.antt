@@ -10,19 +10,19 @@ use Rattle.sheetstore.proofs.sheets_commit.Tie as tie
 commit-requires : tie.Need-commit-requires
 commit-requires c κs = search rules
 
-answer-numbers-requires : tie.Need-answer-numbers-requires
+answer-numbers-requires : tie.Need-answer_numbers-requires
 answer-numbers-requires c κs = search rules
 
-same_length : tie.Need-same-length
+same_length : tie.Need-shape_of-store
 same_length c = search rules
 
-same-length-2 : tie.Need-same-length-2
+same-length-2 : tie.Need-shape_of-copy
 same-length-2 c = search rules
 
 returns : tie.Need-returns
 returns c =
-    ap (λ (x : SheetsAnswer). both x c.before.before.before.before.before.commit.new.0 c.before.before.before.before.before.commit.new.1.0) c.answer-numbers.ensures ∙ ap both_numbers c.before.before.before.before.before.commit.ensures
+    ap (λ (x : SheetsAnswer). both x c.commit.new.store c.commit.new.copy) c.answer_numbers.ensures ∙ ap both_numbers c.commit.ensures
 
-pub sheets-commit-spec : {M : Type 1} → statement M
-sheets-commit-spec =
+pub sheets_commit_spec : {M : Type 1} → statement M
+sheets_commit_spec =
     tie.close (tie.spec commit-requires answer-numbers-requires same_length same-length-2 returns)

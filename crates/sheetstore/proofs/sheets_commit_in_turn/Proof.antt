@@ -7,22 +7,22 @@ use borrow.Author.Rules.{rules}
 use Rattle.sheetstore.proofs.sheets_commit_in_turn.Statement.{statement}
 use Rattle.sheetstore.proofs.sheets_commit_in_turn.Tie as tie
 
-commit-in-turn-requires : tie.Need-commit-in-turn-requires
+commit-in-turn-requires : tie.Need-commit_in_turn-requires
 commit-in-turn-requires c κs = search rules
 
-answer-numbers-requires : tie.Need-answer-numbers-requires
+answer-numbers-requires : tie.Need-answer_numbers-requires
 answer-numbers-requires c κs = search rules
 
-same_length : tie.Need-same-length
+same_length : tie.Need-shape_of-store
 same_length c = search rules
 
-same-length-2 : tie.Need-same-length-2
+same-length-2 : tie.Need-shape_of-copy
 same-length-2 c = search rules
 
 returns : tie.Need-returns
 returns c =
-    ap (λ (x : SheetsAnswer). both x c.before.before.before.before.before.commit-in-turn.new.0 c.before.before.before.before.before.commit-in-turn.new.1.0) c.answer-numbers.ensures ∙ ap both_numbers c.before.before.before.before.before.commit-in-turn.ensures
+    ap (λ (x : SheetsAnswer). both x c.commit_in_turn.new.store c.commit_in_turn.new.copy) c.answer_numbers.ensures ∙ ap both_numbers c.commit_in_turn.ensures
 
-pub sheets-commit-in-turn-spec : {M : Type 1} → statement M
-sheets-commit-in-turn-spec =
+pub sheets_commit_in_turn_spec : {M : Type 1} → statement M
+sheets_commit_in_turn_spec =
     tie.close (tie.spec commit-in-turn-requires answer-numbers-requires same_length same-length-2 returns)

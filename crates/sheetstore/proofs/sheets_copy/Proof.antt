@@ -7,19 +7,19 @@ use borrow.Author.Rules.{rules}
 use Rattle.sheetstore.proofs.sheets_copy.Statement.{statement}
 use Rattle.sheetstore.proofs.sheets_copy.Tie as tie
 
-copy-sheet-requires : tie.Need-copy-sheet-requires
+copy-sheet-requires : tie.Need-copy_sheet-requires
 copy-sheet-requires c κs = search rules
 
-answer-numbers-requires : tie.Need-answer-numbers-requires
+answer-numbers-requires : tie.Need-answer_numbers-requires
 answer-numbers-requires c κs = search rules
 
-same_length : tie.Need-same-length
+same_length : tie.Need-shape_of-copy
 same_length c = search rules
 
 returns : tie.Need-returns
 returns c =
-    ap (λ (x : SheetsAnswer). left x c.before.before.before.copy-sheet.new.1.0) c.answer-numbers.ensures ∙ ap copy_numbers c.before.before.before.copy-sheet.ensures
+    ap (λ (x : SheetsAnswer). left x c.copy_sheet.new.copy) c.answer_numbers.ensures ∙ ap copy_numbers c.copy_sheet.ensures
 
-pub sheets-copy-spec : {M : Type 1} → statement M
-sheets-copy-spec =
+pub sheets_copy_spec : {M : Type 1} → statement M
+sheets_copy_spec =
     tie.close (tie.spec copy-sheet-requires answer-numbers-requires same_length returns)

@@ -7,19 +7,19 @@ use Rattle.sheetstore.specs.Numbers.{left, left_numbers}
 use Rattle.sheetstore.specs.declared.SheetsAnswer.{SheetsAnswer}
 use Rattle.sheetstore.proofs.sheets_create_store.Tie as tie
 
-create-store-requires : tie.Need-create-store-requires
+create-store-requires : tie.Need-create_store-requires
 create-store-requires c κs = search rules
 
-answer-numbers-requires : tie.Need-answer-numbers-requires
+answer-numbers-requires : tie.Need-answer_numbers-requires
 answer-numbers-requires c κs = search rules
 
-same_length : tie.Need-same-length
+same_length : tie.Need-shape_of-store
 same_length c = search rules
 
 returns : tie.Need-returns
 returns c =
-    ap (λ (x : SheetsAnswer). left x c.before.before.before.create_store_lem.new.0) c.answer-numbers.ensures ∙ ap left_numbers c.before.before.before.create_store_lem.ensures
+    ap (λ (x : SheetsAnswer). left x c.create_store.new.store) c.answer_numbers.ensures ∙ ap left_numbers c.create_store.ensures
 
-pub sheets-create-store-spec : {M : Type 1} → statement M
-sheets-create-store-spec =
+pub sheets_create_store_spec : {M : Type 1} → statement M
+sheets_create_store_spec =
     tie.close (tie.spec create-store-requires answer-numbers-requires same_length returns)

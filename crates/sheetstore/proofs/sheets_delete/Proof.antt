@@ -10,16 +10,16 @@ use Rattle.sheetstore.proofs.sheets_delete.Tie as tie
 delete-requires : tie.Need-delete-requires
 delete-requires c κs = search rules
 
-answer-numbers-requires : tie.Need-answer-numbers-requires
+answer-numbers-requires : tie.Need-answer_numbers-requires
 answer-numbers-requires c κs = search rules
 
-same_length : tie.Need-same-length
+same_length : tie.Need-shape_of-copy
 same_length c = search rules
 
 returns : tie.Need-returns
 returns c =
-    ap (λ (x : SheetsAnswer). left x c.before.before.before.delete.new.1.0) c.answer-numbers.ensures ∙ ap copy_numbers c.before.before.before.delete.ensures
+    ap (λ (x : SheetsAnswer). left x c.delete.new.copy) c.answer_numbers.ensures ∙ ap copy_numbers c.delete.ensures
 
-pub sheets-delete-spec : {M : Type 1} → statement M
-sheets-delete-spec =
+pub sheets_delete_spec : {M : Type 1} → statement M
+sheets_delete_spec =
     tie.close (tie.spec delete-requires answer-numbers-requires same_length returns)

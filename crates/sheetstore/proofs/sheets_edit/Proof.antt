@@ -10,15 +10,15 @@ use Rattle.sheetstore.proofs.sheets_edit.Tie as tie
 edit-requires : tie.Need-edit-requires
 edit-requires c κs = search rules
 
-answer-numbers-requires : tie.Need-answer-numbers-requires
+answer-numbers-requires : tie.Need-answer_numbers-requires
 answer-numbers-requires c κs = search rules
 
-same_length : tie.Need-same-length
+same_length : tie.Need-shape_of-copy
 same_length c = search rules
 
 returns : tie.Need-returns
 returns c =
-    ap (λ (x : SheetsAnswer). left x c.before.before.before.edit.new.1.0) c.answer-numbers.ensures ∙ ap copy_numbers c.before.before.before.edit.ensures
+    ap (λ (x : SheetsAnswer). left x c.edit.new.copy) c.answer_numbers.ensures ∙ ap copy_numbers c.edit.ensures
 
-pub sheets-edit-spec : {M : Type 1} → statement M
-sheets-edit-spec = tie.close (tie.spec edit-requires answer-numbers-requires same_length returns)
+pub sheets_edit_spec : {M : Type 1} → statement M
+sheets_edit_spec = tie.close (tie.spec edit-requires answer-numbers-requires same_length returns)

@@ -9,11 +9,11 @@ use Rattle.sheetstore.proofs.sheets_log.Tie as tie
 log-requires : tie.Need-log-requires
 log-requires c κs = search rules
 
-log-numbers-requires : tie.Need-log-numbers-requires
+log-numbers-requires : tie.Need-log_numbers-requires
 log-numbers-requires c κs = search rules
 
 returns : tie.Need-returns
-returns c = c.log-numbers.ensures ∙ ap log_numbers c.before.log.ensures
+returns c = c.log_numbers.ensures ∙ ap log_numbers c.log.ensures
 
-pub sheets-log-spec : {M : Type 1} → statement M
-sheets-log-spec = tie.close (tie.spec log-requires log-numbers-requires returns)
+pub sheets_log_spec : {M : Type 1} → statement M
+sheets_log_spec = tie.close (tie.spec log-requires log-numbers-requires returns)

@@ -6,14 +6,14 @@ use Rattle.sheetstore.proofs.sheets_panel_read.Statement.{statement}
 use Rattle.sheetstore.specs.Numbers.{part_numbers}
 use Rattle.sheetstore.proofs.sheets_panel_read.Tie as tie
 
-panel-place-requires : tie.Need-panel-place-requires
+panel-place-requires : tie.Need-panel_place-requires
 panel-place-requires c κs = search rules
 
-part-numbers-requires : tie.Need-part-numbers-requires
+part-numbers-requires : tie.Need-part_numbers-requires
 part-numbers-requires c κs = search rules
 
 returns : tie.Need-returns
-returns c = c.part-numbers.ensures ∙ ap part_numbers c.before.panel_place_holds.ensures.is
+returns c = c.part_numbers.ensures ∙ ap part_numbers c.panel_place.ensures.is
 
-pub sheets-panel-read-spec : {M : Type 1} → statement M
-sheets-panel-read-spec = tie.close (tie.spec panel-place-requires part-numbers-requires returns)
+pub sheets_panel_read_spec : {M : Type 1} → statement M
+sheets_panel_read_spec = tie.close (tie.spec panel-place-requires part-numbers-requires returns)

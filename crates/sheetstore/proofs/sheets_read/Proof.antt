@@ -6,14 +6,14 @@ use Rattle.sheetstore.proofs.sheets_read.Statement.{statement}
 use Rattle.sheetstore.specs.Numbers.{part_numbers}
 use Rattle.sheetstore.proofs.sheets_read.Tie as tie
 
-read-place-requires : tie.Need-read-place-requires
+read-place-requires : tie.Need-read_place-requires
 read-place-requires c κs = search rules
 
-part-numbers-requires : tie.Need-part-numbers-requires
+part-numbers-requires : tie.Need-part_numbers-requires
 part-numbers-requires c κs = search rules
 
 returns : tie.Need-returns
-returns c = c.part-numbers.ensures ∙ ap part_numbers c.before.read-place.ensures.is
+returns c = c.part_numbers.ensures ∙ ap part_numbers c.read_place.ensures.is
 
-pub sheets-read-spec : {M : Type 1} → statement M
-sheets-read-spec = tie.close (tie.spec read-place-requires part-numbers-requires returns)
+pub sheets_read_spec : {M : Type 1} → statement M
+sheets_read_spec = tie.close (tie.spec read-place-requires part-numbers-requires returns)

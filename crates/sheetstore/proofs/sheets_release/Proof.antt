@@ -10,16 +10,16 @@ use Rattle.sheetstore.proofs.sheets_release.Tie as tie
 release-requires : tie.Need-release-requires
 release-requires c κs = search rules
 
-answer-numbers-requires : tie.Need-answer-numbers-requires
+answer-numbers-requires : tie.Need-answer_numbers-requires
 answer-numbers-requires c κs = search rules
 
-same_length : tie.Need-same-length
+same_length : tie.Need-shape_of-store
 same_length c = search rules
 
 returns : tie.Need-returns
 returns c =
-    ap (λ (x : SheetsAnswer). left x c.before.before.before.release.new.0) c.answer-numbers.ensures ∙ ap left_numbers c.before.before.before.release.ensures
+    ap (λ (x : SheetsAnswer). left x c.release.new.store) c.answer_numbers.ensures ∙ ap left_numbers c.release.ensures
 
-pub sheets-release-spec : {M : Type 1} → statement M
-sheets-release-spec =
+pub sheets_release_spec : {M : Type 1} → statement M
+sheets_release_spec =
     tie.close (tie.spec release-requires answer-numbers-requires same_length returns)

@@ -11,30 +11,30 @@ use Rattle.sheetstore.specs.declared.SheetsAnswer.{SheetsAnswer}
 replay-requires : tie.Need-replay-requires
 replay-requires c κs = search rules
 
-answer-numbers-requires : tie.Need-answer-numbers-requires
+answer-numbers-requires : tie.Need-answer_numbers-requires
 answer-numbers-requires c κs = search rules
 
-same_length : tie.Need-same-length
+same_length : tie.Need-shape_of-store
 same_length c = search rules
 
-same-length-2 : tie.Need-same-length-2
+same-length-2 : tie.Need-shape_of-copies
 same-length-2 c = search rules
 
-same-length-3 : tie.Need-same-length-3
+same-length-3 : tie.Need-shape_of-answers
 same-length-3 c = search rules
 
 returns : tie.Need-returns
 returns c =
-    let r = c.before.before.before.before.before.before.before.replay in
+    let r = c.replay in
     record {
       is =
-          ap (λ (x : SheetsAnswer). record { numbers = x; left = desk r.new.1.0 r.new.1.1.0 r.new.1.1.1.0 }) c.answer-numbers.ensures
+          ap (λ (x : SheetsAnswer). record { numbers = x; left = desk r.new.store r.new.copies r.new.answers }) c.answer_numbers.ensures
           ∙ ap all_numbers r.ensures.is;
       machine = r.ensures.machine;
     }
 
-pub sheets-replay-spec : {M : Type 1} → statement M
-sheets-replay-spec =
+pub sheets_replay_spec : {M : Type 1} → statement M
+sheets_replay_spec =
     tie.close
     (tie.spec
     replay-requires

@@ -10,16 +10,16 @@ use Rattle.sheetstore.proofs.sheets_revert.Tie as tie
 revert-requires : tie.Need-revert-requires
 revert-requires c κs = search rules
 
-answer-numbers-requires : tie.Need-answer-numbers-requires
+answer-numbers-requires : tie.Need-answer_numbers-requires
 answer-numbers-requires c κs = search rules
 
-same_length : tie.Need-same-length
+same_length : tie.Need-shape_of-copy
 same_length c = search rules
 
 returns : tie.Need-returns
 returns c =
-    ap (λ (x : SheetsAnswer). left x c.before.before.before.revert.new.1.0) c.answer-numbers.ensures ∙ ap copy_numbers c.before.before.before.revert.ensures
+    ap (λ (x : SheetsAnswer). left x c.revert.new.copy) c.answer_numbers.ensures ∙ ap copy_numbers c.revert.ensures
 
-pub sheets-revert-spec : {M : Type 1} → statement M
-sheets-revert-spec =
+pub sheets_revert_spec : {M : Type 1} → statement M
+sheets_revert_spec =
     tie.close (tie.spec revert-requires answer-numbers-requires same_length returns)

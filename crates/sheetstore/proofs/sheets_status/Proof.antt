@@ -9,11 +9,11 @@ use Rattle.sheetstore.proofs.sheets_status.Tie as tie
 status-requires : tie.Need-status-requires
 status-requires c κs = search rules
 
-standing-numbers-requires : tie.Need-standing-numbers-requires
+standing-numbers-requires : tie.Need-standing_numbers-requires
 standing-numbers-requires c κs = search rules
 
 returns : tie.Need-returns
-returns c = c.standing-numbers.ensures ∙ ap standing_numbers c.before.status.ensures
+returns c = c.standing_numbers.ensures ∙ ap standing_numbers c.status.ensures
 
-pub sheets-status-spec : {M : Type 1} → statement M
-sheets-status-spec = tie.close (tie.spec status-requires standing-numbers-requires returns)
+pub sheets_status_spec : {M : Type 1} → statement M
+sheets_status_spec = tie.close (tie.spec status-requires standing-numbers-requires returns)

@@ -10,16 +10,16 @@ use Rattle.sheetstore.proofs.sheets_update.Tie as tie
 update-requires : tie.Need-update-requires
 update-requires c κs = search rules
 
-answer-numbers-requires : tie.Need-answer-numbers-requires
+answer-numbers-requires : tie.Need-answer_numbers-requires
 answer-numbers-requires c κs = search rules
 
-same_length : tie.Need-same-length
+same_length : tie.Need-shape_of-copy
 same_length c = search rules
 
 returns : tie.Need-returns
 returns c =
-    ap (λ (x : SheetsAnswer). left x c.before.before.before.update.new.1.0) c.answer-numbers.ensures ∙ ap copy_numbers c.before.before.before.update.ensures
+    ap (λ (x : SheetsAnswer). left x c.update.new.copy) c.answer_numbers.ensures ∙ ap copy_numbers c.update.ensures
 
-pub sheets-update-spec : {M : Type 1} → statement M
-sheets-update-spec =
+pub sheets_update_spec : {M : Type 1} → statement M
+sheets_update_spec =
     tie.close (tie.spec update-requires answer-numbers-requires same_length returns)

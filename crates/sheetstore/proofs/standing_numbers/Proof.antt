@@ -7,63 +7,63 @@ use Rattle.sheetstore.proofs.standing_numbers.Statement.{statement}
 use Rattle.sheetstore.specs.Numbers.{no_standing}
 use Rattle.sheetstore.proofs.standing_numbers.Tie as tie
 
-enum-known-answer : tie.Need-enum-known-answer
+enum-known-answer : tie.Need-enum_known-answer
 enum-known-answer c = search rules
 
 number-requires : tie.Need-number-requires
 number-requires c κs = search rules
 
-no-standing-requires : tie.Need-no-standing-requires
+no-standing-requires : tie.Need-no_standing-requires
 no-standing-requires c κs = search rules
 
-enum_told : tie.Need-enum-told
+enum_told : tie.Need-enum_told-1
 enum_told c = search rules
 
-no-standing-requires-2 : tie.Need-no-standing-requires-2
+no-standing-requires-2 : tie.Need-no_standing-requires-in-Done
 no-standing-requires-2 c κs = search rules
 
-enum-told-2 : tie.Need-enum-told-2
+enum-told-2 : tie.Need-enum_told-in-Revision
 enum-told-2 c = search rules
 
-no-standing-requires-3 : tie.Need-no-standing-requires-3
+no-standing-requires-3 : tie.Need-no_standing-requires-in-Revision
 no-standing-requires-3 c κs = search rules
 
-enum-known-answer-2 : tie.Need-enum-known-answer-2
+enum-known-answer-2 : tie.Need-enum_known-answer-in-Status-1
 enum-known-answer-2 c = search rules
 
-enum-told-3 : tie.Need-enum-told-3
+enum-told-3 : tie.Need-enum_told-in-Logged
 enum-told-3 c = search rules
 
-no-standing-requires-4 : tie.Need-no-standing-requires-4
+no-standing-requires-4 : tie.Need-no_standing-requires-in-Logged
 no-standing-requires-4 c κs = search rules
 
-enum-told-4 : tie.Need-enum-told-4
+enum-told-4 : tie.Need-enum_told-in-Stopped
 enum-told-4 c = search rules
 
-no-standing-requires-5 : tie.Need-no-standing-requires-5
+no-standing-requires-5 : tie.Need-no_standing-requires-in-Stopped
 no-standing-requires-5 c κs = search rules
 
-returns : tie.Need-returns
+returns : tie.Need-returns-in-Refused
 returns c =
-    c.no-standing.ensures ∙ ap no_standing c.before.number.ensures ∙ standing_known c.before.before.before.answer.given.1
+    c.no_standing.ensures ∙ ap no_standing c.number.ensures ∙ standing_known c.in-Refused.is
 
-returns-2 : tie.Need-returns-2
-returns-2 c = c.no-standing2.ensures ∙ standing_known c.before.enum_told.given.1
+returns-2 : tie.Need-returns-in-Done
+returns-2 c = c.no_standing-in-Done.ensures ∙ standing_known c.in-Done.is
 
-returns-3 : tie.Need-returns-3
-returns-3 c = c.no-standing3.ensures ∙ standing_known c.before.enum-told2.given.1
+returns-3 : tie.Need-returns-in-Revision
+returns-3 c = c.no_standing-in-Revision.ensures ∙ standing_known c.in-Revision.is
 
-returns-4 : tie.Need-returns-4
-returns-4 c = standing_known c.before.answer2.given.1
+returns-4 : tie.Need-returns-in-Status
+returns-4 c = standing_known c.in-Status.is
 
-returns-5 : tie.Need-returns-5
-returns-5 c = c.no-standing4.ensures ∙ standing_known c.before.enum-told3.given.1
+returns-5 : tie.Need-returns-in-Logged
+returns-5 c = c.no_standing-in-Logged.ensures ∙ standing_known c.in-Logged.is
 
-returns-6 : tie.Need-returns-6
-returns-6 c = c.no-standing5.ensures ∙ standing_known c.before.enum-told4.given.1
+returns-6 : tie.Need-returns-in-Stopped
+returns-6 c = c.no_standing-in-Stopped.ensures ∙ standing_known c.in-Stopped.is
 
-pub standing-numbers-spec : {M : Type 1} → statement M
-standing-numbers-spec =
+pub standing_numbers_spec : {M : Type 1} → statement M
+standing_numbers_spec =
     tie.close
     (tie.spec
     enum-known-answer
