@@ -5,7 +5,7 @@ use Prim.Native.Nat.{◌-◌, ◌<◌, ◌^◌, ◌≤◌, ℕ}
 use mathlib.Core.List.{List, [], ◌++◌, ◌∷◌}
 use mathlib.Core.Path.{◌∙◌, ◌≡◌, ap, refl, subst, sym}
 use lib.ListN.{set}
-use Rattle.model.specs.Calls.{Buffers, Created, Out, both_conditions, call, fresh_buffers, fresh_copy, out, store_only_conditions}
+use Rattle.model.specs.Calls.{Buffers, Created, Out, both_conditions, fresh_buffers, fresh_copy, out, store_only_conditions}
 use Rattle.model.specs.Demand3.{Brings, NothingPending, copy_in}
 use Rattle.model.specs.History.{Bytes, last}
 use Rattle.model.specs.Log.{Log, Placed, commits, marks}

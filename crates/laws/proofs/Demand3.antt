@@ -16,7 +16,7 @@ use Rattle.model.specs.Entry.{Entry, added, copied, deleted, empty, modified, no
 use Rattle.model.specs.History.{History, change, last, namer, names, nothing, sheet}
 use Rattle.model.specs.Invariant.{Kept}
 use Rattle.model.specs.Machine.{Answer, Side, State, Update, agreed, as_bytes, as_in, chosen, doing, entry, fresh, same_namer, side_of, updated}
-use Rattle.model.specs.Log.{Placed, commits, marks, panel_revision, releases}
+use Rattle.model.specs.Log.{Placed, panel_revision, releases}
 use Rattle.model.specs.Refusals.{conditions, conflict, first_of, lacking, too_late}
 use Rattle.model.specs.Rows.{some-row}
 use Rattle.model.specs.Run.{AllValid, Turn, accepted, accepted_marks, answers, asked, is_revision, run, side_by, side_step, step}

@@ -16,7 +16,7 @@ use Rattle.laws.proofs.Replaying.{replayed}
 use Rattle.model.specs.Calls.{Buffers, Out, after_turn, answers_on, call, run_on, turn_on}
 use Rattle.model.specs.History.{Bytes}
 use Rattle.model.specs.Machine.{Answer, bytes, done, logged, refused, revision, status, stopped}
-use Rattle.model.specs.Run.{AllValid, Turn, Valid, answers, run}
+use Rattle.model.specs.Run.{AllValid, Turn, Valid, run}
 use Rattle.model.specs.Shows.{Accepted, AllAccepted, Shows, state_in}
 use Rattle.model.specs.Store.{block_count}
 use Rattle.model.specs.Types.{number_of}

@@ -13,7 +13,7 @@ use Rattle.model.specs.Codec.{encode, joined, padded, shaped}
 use Rattle.model.specs.Entry.{added, empty}
 use Rattle.model.specs.History.{Bytes, tree}
 use Rattle.model.specs.Layout.{means, next}
-use Rattle.model.specs.Machine.{done, revision, stopped}
+use Rattle.model.specs.Machine.{done, stopped}
 use Rattle.model.specs.Pass.{laid, log_all, log_from, no_changes, ok, ok_from, read_all, read_from, rule, stated, tables_after, tables_of}
 use Rattle.model.specs.Store.{bare_in, blank_from, blocks_of, checked, checked_but, filled_in, history_of, lawful, lawful_but, stem_in, whole_in}
 use Rattle.model.specs.WorkCopy.{copy_blocks_of, copy_bytes, copy_ok, entries_of, parse_copy_block, seat_of}

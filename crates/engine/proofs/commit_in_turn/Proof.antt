@@ -2,7 +2,6 @@
 -- Assumes nothing.
 use mathlib.Core.Path.{◌∙◌, subst, sym}
 use native.Mathlib.Omega.{arith}
-use borrow.Author.Tests.{not-false, not-true}
 use Rattle.engine.specs.MayCommit.{MayCommit}
 use Rattle.engine.proofs.Committing.{turn-checked, turn-done, turn_formless, turn-held, turn_maskless}
 use borrow.Author.Rules.{rules}

@@ -1,7 +1,6 @@
 -- `entries::agreed` meets its contract.
 -- Assumes nothing.
 use borrow.Author.Rules.{rules}
-use borrow.Author.Tests.{not-false, not-true}
 use Rattle.entries.proofs.Updating.{agreed-not, agreed_so}
 use Rattle.entries.proofs.agreed.Statement.{statement}
 use Rattle.entries.proofs.agreed.Tie as tie

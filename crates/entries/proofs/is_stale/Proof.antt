@@ -2,7 +2,6 @@
 -- Assumes nothing.
 use mathlib.Core.Path.{◌∙◌, ap, sym}
 use borrow.Author.Rules.{rules}
-use borrow.Author.Tests.{not-false, not-true}
 use Rattle.model.specs.Refusals.{out_of_date}
 use Rattle.model.specs.Store.{store_history}
 use Rattle.entries.proofs.States.{as_read, modified-stale, normal_base, unmodified_current}

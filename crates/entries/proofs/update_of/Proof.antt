@@ -2,7 +2,6 @@
 -- Assumes nothing.
 use native.Mathlib.Omega.{arith}
 use borrow.Author.Rules.{rules}
-use borrow.Author.Tests.{not-false, not-true}
 use Rattle.entries.proofs.Looking.{found-used}
 use Rattle.entries.proofs.States.{deleted_base, normal_base}
 use Rattle.entries.proofs.Updating.{agreed-added, agreed-copied, agreed-modified, conflict-deleted, stay_added, stay_copied, update_deleted, update_empty, update_modified, update_unmodified}

@@ -1,7 +1,6 @@
 -- Move: a copy that is refused refuses it, and one that is done is followed by a delete.
 -- Assumes nothing.
 use mathlib.Core.Path.{◌∙◌, sym}
-use borrow.Author.Tests.{not-false, not-true}
 use Rattle.local.proofs.Tests.{copied-accepted, move_is, move_refused}
 use borrow.Author.Rules.{rules}
 use Rattle.local.proofs.move_sheet.Statement.{statement}

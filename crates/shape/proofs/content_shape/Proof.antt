@@ -4,7 +4,6 @@ use Prim.Native.Nat.{◌+◌, ◌-◌}
 use mathlib.Core.Path.{◌∙◌, ◌≡◌, subst, sym}
 use native.Mathlib.Omega.{arith}
 use borrow.Author.Rules.{rules}
-use borrow.Author.Tests.{not-false, not-true}
 use lib.Dec.{T}
 use Rattle.block.proofs.Says.{Says, says_false, says_true}
 use Rattle.block.specs.Field.{two_at}

@@ -1,7 +1,6 @@
 -- `shape::kind` meets its contract.
 -- Assumes nothing.
 use mathlib.Core.Path.{sym}
-use native.Mathlib.Omega.{arith}
 use borrow.Author.Rules.{rules}
 use Rattle.shape.proofs.Turns.{kind_is, kind-mark, kind_past}
 use Rattle.shape.proofs.kind.Statement.{statement}

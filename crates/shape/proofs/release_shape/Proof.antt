@@ -4,7 +4,7 @@ use mathlib.Core.Bool.{◌&&◌}
 use mathlib.Core.Path.{◌∙◌, ◌≡◌, sym}
 use native.Mathlib.Omega.{arith}
 use borrow.Author.Rules.{rules}
-use borrow.Author.Tests.{ne_eqb, not-false, not-true}
+use borrow.Author.Tests.{ne_eqb}
 use lib.Dec.{eqb}
 use lib.ListN.{get_or}
 use Rattle.model.specs.Blocks.{fields_of, fits_block, parse}

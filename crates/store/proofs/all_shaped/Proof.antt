@@ -4,7 +4,6 @@ use Prim.Native.Nat.{◌-◌, ◌≤◌}
 use mathlib.Core.Path.{◌≡◌}
 use native.Mathlib.Omega.{arith}
 use borrow.Author.Rules.{rules}
-use borrow.Author.Tests.{not-false, not-true}
 use Rattle.block.specs.Lists.{all}
 use Rattle.model.specs.Blocks.{fields_of, fits_block, parse}
 use Rattle.model.specs.Codec.{parts, shaped}

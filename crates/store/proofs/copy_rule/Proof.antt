@@ -6,7 +6,6 @@ use mathlib.Core.List.{[]}
 use mathlib.Core.Path.{◌∙◌, ap, sym}
 use native.Mathlib.Omega.{arith}
 use borrow.Author.Rules.{rules}
-use borrow.Author.Tests.{not-false, not-true}
 use lib.ListN.{get_or}
 use Rattle.model.specs.Blocks.{bytes_at}
 use Rattle.model.specs.Store.{blocks_of}

@@ -4,7 +4,6 @@ use Prim.Native.Nat.{◌≤◌}
 use mathlib.Core.Path.{◌≡◌, refl}
 use native.Mathlib.Omega.{arith}
 use borrow.Author.Rules.{rules}
-use borrow.Author.Tests.{not-false, not-true}
 use Rattle.model.specs.Store.{filled_in}
 use Rattle.store.proofs.Scanned.{filled_here, filled_none, filled_on}
 use Rattle.store.proofs.filled.Statement.{statement}

@@ -1,11 +1,10 @@
 -- `store::marked` meets its contract: where the pass met no mark, none stands twice.
 -- Assumes nothing.
 use mathlib.Core.Bool.{Bool, cond}
-use mathlib.Core.Path.{◌∙◌, ap, refl, sym}
+use mathlib.Core.Path.{◌∙◌, ap, sym}
 use borrow.Author.Rules.{rules}
-use borrow.Author.Tests.{not-false, not-true}
 use Rattle.model.specs.declared.Refusal.TheVariants.{StoreLayout}
-use Rattle.store.specs.Opened.{Markless, marked_of, opened_as}
+use Rattle.store.specs.Opened.{marked_of, opened_as}
 use Rattle.store.specs.declared.Opened.TheVariants.{Open, Refused}
 use Rattle.store.proofs.OpenLaws.{open_plain}
 use Rattle.store.proofs.marked.Statement.{statement}

@@ -2,7 +2,7 @@
 -- Assumes nothing.
 use mathlib.Core.Path.{◌∙◌, sym}
 use borrow.Author.Rules.{rules}
-use borrow.Author.Tests.{eq-eqb, ne_eqb, not-false, not-true}
+use borrow.Author.Tests.{eq-eqb, ne_eqb}
 use Rattle.store.proofs.RuleLaws.{plain-absent}
 use Rattle.store.proofs.plain_rule.Statement.{statement}
 use Rattle.store.specs.Rule.{plain_rule}

@@ -3,7 +3,6 @@
 use mathlib.Core.Bool.{not}
 use mathlib.Core.Path.{◌∙◌, ap, sym}
 use borrow.Author.Rules.{rules}
-use borrow.Author.Tests.{not-false}
 use Rattle.turns.specs.Turns.{TakeBack}
 use Rattle.turns.proofs.Calls.{left_is, refused_is}
 use Rattle.turns.proofs.taken_back.Statement.{statement}

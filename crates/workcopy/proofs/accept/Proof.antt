@@ -3,7 +3,6 @@
 use mathlib.Core.Path.{◌∙◌, refl, sym}
 use native.Mathlib.Omega.{arith}
 use borrow.Author.Rules.{rules}
-use borrow.Author.Tests.{not-false, not-true}
 use Rattle.workcopy.proofs.Accepting.{all_right, wrong-entry, wrong-length, wrong-seat}
 use Rattle.workcopy.proofs.accept.Statement.{statement}
 use Rattle.workcopy.proofs.accept.Tie as tie

@@ -4,7 +4,6 @@ use Prim.Native.Nat.{◌*◌, ◌+◌, ◌-◌, ◌≤◌}
 use mathlib.Core.Path.{◌∙◌, ◌≡◌, refl, sym}
 use native.Mathlib.Omega.{arith}
 use borrow.Author.Rules.{rules}
-use borrow.Author.Tests.{not-false, not-true}
 use Rattle.workcopy.proofs.Accepting.{left, left-all, left_fails, left-none, left_passes}
 use Rattle.workcopy.proofs.Blocks.{lent}
 use Rattle.workcopy.proofs.entries_ok.Statement.{statement}

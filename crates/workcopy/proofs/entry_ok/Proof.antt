@@ -2,7 +2,6 @@
 -- Assumes nothing.
 use mathlib.Core.Path.{◌∙◌, sym}
 use borrow.Author.Rules.{rules}
-use borrow.Author.Tests.{not-false, not-true}
 use Rattle.workcopy.proofs.Accepting.{ok-other, ok-shaped, ok_unsealed}
 use Rattle.workcopy.proofs.entry_ok.Statement.{statement}
 use Rattle.workcopy.proofs.entry_ok.Tie as tie

@@ -4,7 +4,6 @@ use Prim.Native.Nat.{◌<◌, ℕ}
 use mathlib.Core.Path.{◌∙◌, sym}
 use native.Mathlib.Omega.{arith}
 use borrow.Author.Rules.{rules}
-use borrow.Author.Tests.{not-false, not-true}
 use lib.ListN.{get_or}
 use Rattle.workcopy.proofs.Scan.{entry_gap, entry-last, entry_long, entry-rest, entry_seven}
 use Rattle.workcopy.proofs.entry_shape.Statement.{statement}
