@@ -4,7 +4,7 @@
 ghost use Rattle.std.specs.Prelude.{◌/◌, ◌≤◌, ℕ, List, ◌≡◌, length};
 ghost use Rattle.block.specs.Write.{written};
 ghost use Rattle.text.specs.Text.{HexFits, hexed, numbered, words};
-ghost use Rattle.command.specs.Command.{CallFits, LineFits, call_in, four_of, fourth_of, is_word, key_of, line_turn, seated as seatedOf, three_of, turn_in};
+ghost use Rattle.command.specs.Command.{CallFits, LineFits, call_in, four_of, fourth_of, is_word, key_of, line_turn, seated as seated_of, three_of, turn_in};
 
 use text::{Hex, Num};
 
@@ -92,7 +92,7 @@ fn keyword(w: &[u8]) -> Key
 
 // A call by seat 1 or 2.
 fn seated(seat: u32, c: Call) -> Line
-    ensures by_index { (l : List ℕ) → turn_in result l ≡ seatedOf seat (call_in c l) }
+    ensures by_index { (l : List ℕ) → turn_in result l ≡ seated_of seat (call_in c l) }
     ensures by_index_2 { (m : ℕ) → CallFits c m → LineFits result m }
 {
     if seat == 1 {

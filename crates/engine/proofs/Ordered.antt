@@ -9,7 +9,7 @@ use denote.Ref.{Bor}
 use Rattle.model.specs.Calls.{Buffers, Out, fresh_buffers, run_on, side_in}
 use Rattle.model.specs.Demand2.{LaidStore}
 use Rattle.model.specs.History.{Bytes, last}
-use Rattle.model.specs.Log.{Log, commits as commitsOf, released}
+use Rattle.model.specs.Log.{Log, commits as commits_of, released}
 use Rattle.model.specs.Machine.{Commits, Release, done, fresh, new_commit, revision}
 use Rattle.model.specs.Order.{continued, store_bytes}
 use Rattle.model.specs.Ordered.{Appends, AppendsMark}
@@ -42,7 +42,7 @@ pub record CodeOrdered : Type 2 where
       → answer_of r ≡ done → AppendsMark store store' (released R seat stamp)
   -- "Stores already written in another order are still accepted and read.": `open` accepts every layout of a history, which leaves the order free, and `read_place` finds its sheets
   pub opened : (κs : Lfts 1) (x x' : Bor Bytes) (r : Opened) → open-reads.Learnt κs (x, tt) r (x', tt) → (g : Log) → LaidStore x.now g → (t : Header) × (r ≡ Open t)
-  pub found : (store : Bytes) (g : Log) → LaidStore store g → (R i : ℕ) → R ≤ last (commitsOf g) → i ≤ 31 → Read store (commitsOf g) R i
+  pub found : (store : Bytes) (g : Log) → LaidStore store g → (R i : ℕ) → R ≤ last (commits_of g) → i ≤ 31 → Read store (commits_of g) R i
   -- and calls go on with them: behind the blocks in use, which stay, the commits that were accepted and the releases, in this order; a tail that is left counts as zero blocks
   pub lists : {b b' : Buffers} {ts : List Turn} {rs : List TheAnswer} → AllAccepted b → AllValid ts → Trace b ts rs b'
       → bare_of b'.store ≡ continued b.store (accepted_log (state_in b) ts)
@@ -75,7 +75,7 @@ code_ordered = record {
       subst (λ (s : Bytes). AppendsMark store s (released R seat stamp)) (sym (ap (λ (o : Out). o.store) e))
       (ordered.releases store R seat stamp small (sym (ap (λ (o : Out). o.says) e) ∙ q));
   opened = λ κs x x' r l h L. (code_demand_two.opens κs x x' r l).accepted.1 (h, L);
-  found = λ store g L R i le small. read_is store (commitsOf g) R i ((ordered.another store g L).found R i le small);
+  found = λ store g L R i le small. read_is store (commits_of g) R i ((ordered.another store g L).found R i le small);
   lists = λ {b} {b'} {ts} A v T. ap bare_of (left T) ∙ ordered.lists b ts A v;
   bytes = λ N lo hi {b} {ts} v T z. left T ∙ ordered.bytes N ts lo hi v (ap tail_of (sym (left T)) ∙ z);
   equal = λ N lo hi {b} {c} {ts} {us} v w T U y z e. left T ∙ ordered.equal N ts us lo hi v w (ap tail_of (sym (left T)) ∙ y) (ap tail_of (sym (left U)) ∙ z) e ∙ sym (left U);

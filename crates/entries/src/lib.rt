@@ -6,7 +6,7 @@ ghost use Rattle.std.proofs.Math.Option.{none};
 ghost use Rattle.model.specs.Calls.{store_conditions};
 ghost use Rattle.model.specs.Entry.{pending};
 ghost use Rattle.model.specs.Fitting.{fits_entry, fits_store};
-ghost use Rattle.model.specs.Fitting.{has as hasSheet};
+ghost use Rattle.model.specs.Fitting.{has as has_sheet};
 ghost use Rattle.model.specs.History.{is_bytes, named_after, newest, present, sheet};
 ghost use Rattle.model.specs.Machine.{status_of};
 ghost use Rattle.model.specs.Refusals.{first_of, out_of_date};
@@ -34,7 +34,7 @@ pub struct View {
 // Whether revision r is at most the last and its tree has sheet i.
 fn has(store: &[u8], v: View, r: usize, i: usize) -> bool
     requires { Opened store.now v }
-    ensures { result ≡ hasSheet (store_history store.now) r i }
+    ensures { result ≡ has_sheet (store_history store.now) r i }
 {
     if v.last < r {
         return false;

@@ -10,7 +10,7 @@ use Rattle.model.specs.Calls.{Buffers, commit_call, fresh_buffers, read_call, re
 use Rattle.model.specs.Demand2.{LaidStore}
 use Rattle.model.specs.History.{Bytes, Commit, History, last, namer, sheet}
 use Rattle.model.specs.Invariant.{SoundLog}
-use Rattle.model.specs.Log.{Log as TheLog, Mark, a_commit, a_mark, commits as commitsOf, released}
+use Rattle.model.specs.Log.{Log as TheLog, Mark, a_commit, a_mark, commits as commits_of, released}
 use Rattle.model.specs.Machine.{as_bytes, done, fresh, new_commit, revision}
 use Rattle.model.specs.Order.{InOrder, continued, store_bytes, used_by}
 use Rattle.model.specs.Refusals.{first_of}
@@ -56,7 +56,7 @@ pub record Ordered : Type 0 where
   pub releases : (store : Bytes) (R seat stamp : ℕ) → stamp < 2 ^ 32 → (release_call store R seat stamp).says ≡ done
       → AppendsMark store (release_call store R seat stamp).buffer (released R seat stamp)
   -- "Stores already written in another order are still accepted and read.": every layout of a history is, and the layout leaves the order of changes and of contents free
-  pub another : (store : Bytes) (g : TheLog) → LaidStore store g → ReadAs store (commitsOf g)
+  pub another : (store : Bytes) (g : TheLog) → LaidStore store g → ReadAs store (commits_of g)
   -- any list of calls on accepted buffers, in whatever order the store is written; of what they leave, a tail counts as zero blocks
   pub lists : (b : Buffers) (ts : List Turn) → AllAccepted b → AllValid ts → bare_of (run_on b ts).store ≡ continued b.store (accepted_log (state_in b) ts)
   -- any list of calls from a fresh store of N blocks and four fresh copies that leaves no tail ("W1 speaks of stores without a tail", W6): the bytes follow from N, the accepted

@@ -9,7 +9,7 @@ ghost use Rattle.model.specs.Calls.{Buffers, call as call_of, out};
 ghost use Rattle.model.specs.Run.{is_revision};
 ghost use Rattle.model.specs.Types.{answer_of};
 ghost use Rattle.text.specs.Text.{decimal_of, words};
-ghost use Rattle.turns.specs.Turns.{holder as holderOf, is_in, numbers_of, queue_of};
+ghost use Rattle.turns.specs.Turns.{holder as holder_of, is_in, numbers_of, queue_of};
 ghost use Rattle.rehearsal.specs.Desk.{FiledOn, Planned, Sane, filed, filed_by, fresh_day, hall_in, pool};
 ghost use Rattle.rehearsal.specs.Nine.{nine_as, small_of};
 ghost use Rattle.rehearsal.specs.Outcomes.{no_day, outcome_of};
@@ -297,7 +297,7 @@ fn finish(
     step: u32,
 ) -> Day
     requires { Sane 4_000 (hall_in (pool store.old one.old two.old three.old four.old) d) × Planned settings × (step ≤ 60) }
-    ensures { hall_in (pool store.new one.new two.new three.new four.new) result ≡ finishing_on settings step (holderOf (queue_of (numbers_of d.turn))) (hall_in (pool store.old one.old two.old three.old four.old) d) }
+    ensures { hall_in (pool store.new one.new two.new three.new four.new) result ≡ finishing_on settings step (holder_of (queue_of (numbers_of d.turn))) (hall_in (pool store.old one.old two.old three.old four.old) d) }
 {
     let turn = d.turn;
     let seat = turn.holder;
