@@ -1,4 +1,4 @@
-/* The sheet store for C and whatever calls C. Build the library with `rt staticlib sheetstore`.
+/* The sheet store for C and whatever calls C. Build the library with `tools/build sheetstore`.
  *
  * Every call works on what the caller lends: a store of 2 to 4,096 blocks of 512 bytes, a working copy of 16,896 bytes, a turn
  * record. A call checks all that it is handed, finishes on every input, and either does its work or answers a refusal and leaves

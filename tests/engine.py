@@ -42,7 +42,7 @@ def build():
     """The static library as one that Python can load. SHEETSTORE_LIB names the folder of a libsheetstore.a that is built already."""
     folder = os.environ.get('SHEETSTORE_LIB')
     if folder is None:
-        subprocess.run(['rt', 'staticlib', 'sheetstore'], cwd=ROOT, check=True, stdout=subprocess.DEVNULL)
+        subprocess.run([ROOT / 'tools' / 'build', 'sheetstore'], check=True, stdout=subprocess.DEVNULL)
         folder = ROOT / 'target' / 'staticlib'
     archive = pathlib.Path(folder) / 'libsheetstore.a'
     with tempfile.TemporaryDirectory() as own:  # tests run beside each other

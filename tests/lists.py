@@ -5,11 +5,11 @@ lists.py FILE        every list of a file of lists, one JSON object a line: see 
 lists.py --random N [SEED]   a list of N random calls by four seats, and N / 4 more, of which half are on the turn record or through it, and N / 4 more, of which half
                      are releases and panel readings, with the answers and the end of tests/model; it begins on a fresh store with a tail
 
-For each list two theorems by `refl` are written to target/lists: the answers are those of the list, and the machine's
+For each list two theorems by `refl` are written into a crate in a folder of its own: the answers are those of the list, and the machine's
 state and the record at the end are the list's. A power cut is no call: a list that has some is cut there, and each part
 begins in the state that tests/model has after the cut. Then the prover checks them.
 """
-import argparse, collections, json, os, pathlib, random, subprocess, sys, weakref
+import argparse, collections, json, pathlib, random, re, shutil, subprocess, sys, tempfile, weakref
 
 ROOT = pathlib.Path(__file__).resolve().parent.parent
 sys.path.insert(0, str(ROOT / 'tests' / 'model'))
@@ -20,18 +20,17 @@ NAMES = dict(add='Add', edit='Edit', delete='Delete', copy='Copy', move='Move', 
              release='Release', panel='Panel')
 ON_RECORD = dict(ask='Ask', give='Give', take='TakeBack')
 STORE_ONLY = ('read', 'log', 'clear', 'clear_cut', 'release', 'panel')
-HEAD = '''use mathlib.Core.Path.{_≡_, refl}
-use mathlib.Core.List.{List, [], _∷_}
-use lib.ListN.{replicate}
-use Rattle·model.specs.History.{tree, Change, nothing, add, change, delete, copy, Commit}
-use Rattle·model.specs.Entry.{Entry, empty, normal, added, deleted, copied}
-use Rattle·model.specs.Log.{released}
-use Rattle·model.specs.Machine.{State, fresh}
-use Rattle·model.specs.Machine.{Add, Edit, Delete, Copy, Move, Commits, Update, Revert, Read, Show, Status, Log, Clears, CommitsCut, ClearsCut, Release, Panel}
-use Rattle·model.specs.Machine.{Answer, refused, done, revision, stopped, bytes, status, logged}
-use Rattle·model.proofs.Play.{_does_}
-use Rattle·turns.specs.Turns.{Ask, Give, TakeBack, noTurn, heldBy, free, queueOf, inForm, turnCall}
-use Rattle·turns.specs.Mixed.{Move as AnyCall, plain, turns, commits, said, held, Table, table, moved, saidBy}
+HEAD = '''use Rattle.std.specs.Prelude.{◌≡◌, List, [], ◌∷◌, replicate}
+use Rattle.std.proofs.Common.{refl}
+use Rattle.model.specs.History.{tree, Change, nothing, add, change, delete, copy, Commit}
+use Rattle.model.specs.Entry.{Entry, empty, normal, added, deleted, copied}
+use Rattle.model.specs.Log.{released}
+use Rattle.model.specs.Machine.{State, fresh}
+use Rattle.model.specs.Machine.{Add, Edit, Delete, Copy, Move, Commits, Update, Revert, Read, Show, Status, Log, Clears, CommitsCut, ClearsCut, Release, Panel}
+use Rattle.model.specs.Machine.{Answer, refused, done, revision, stopped, bytes, status, logged}
+use Rattle.model.proofs.Play.{◌does◌}
+use Rattle.turns.specs.Turns.{Ask, Give, TakeBack, no_turn, held_by, free, queue_of, in_form, turn_call}
+use Rattle.turns.specs.Mixed.{Move as AnyCall, plain, turns, commits, said, held, Table, table, moved, said_by}
 
 '''
 
@@ -57,7 +56,7 @@ def call(name, seat, *args):
 def answer(name, a):
     """What a call answers: one on the record, or any other."""
     if name in ON_RECORD:
-        return f'held ({"noTurn" if a[0] == "no" else "heldBy"} {a[1]})'
+        return f'held ({"no_turn" if a[0] == "no" else "held_by"} {a[1]})'
     return f'said ({told_by_machine(a)})'
 
 
@@ -104,10 +103,10 @@ def state(n, used, tail, log, seats, turn):
 
 def theorems(n, calls, answers, *end, start=None):
     """The theorems of a list: blocks, calls, answers, and at the end used blocks, those of the tail, log, entries and the record. It starts fresh, or as given."""
-    unfolds = 'unfolding tree queueOf inForm turnCall'
+    unfolds = 'unfolding tree queue_of in_form turn_call'
     return (HEAD + f'abbrev calls : List AnyCall\ncalls = {cons(call(*c) for c in calls)}\n\n'
             f'abbrev start : Table\nstart = {state(n, *start) if start else f"table (fresh {n}) free"}\n\n'
-            f'answered : saidBy start calls ≡ {cons(answer(c[0], a) for c, a in zip(calls, answers))}\n{unfolds}\nanswered = refl\n\n'
+            f'answered : said_by start calls ≡ {cons(answer(c[0], a) for c, a in zip(calls, answers))}\n{unfolds}\nanswered = refl\n\n'
             f'left : moved start calls ≡ {state(n, *end)}\n{unfolds}\nleft = refl\n')
 
 
@@ -702,27 +701,27 @@ def main():
         count, calls, texts = len(lists), sum(len(l[1]) for l in lists), [text for l in lists for text in parts(*l)]
     else:
         sys.exit(__doc__)
-    repo = ROOT / 'target' / 'lists'
-    crate = repo / 'crates' / 'lists'
-    subprocess.run(['rm', '-rf', str(crate)])
-    for folder in (crate / 'src', crate / 'specs', crate / 'proofs', repo / 'target' / 'rlib', repo / 'target' / 'stamp'):
-        folder.mkdir(parents=True, exist_ok=True)
     needs = dict(line.split(':') for line in (ROOT / 'crates.txt').read_text().splitlines() if line and line[0] != '#')
     names = [*needs['turns'].split(), 'turns']
-    for name in names:
-        # with what is proved of it already: rt looks whether that is still so
-        for path in (f'crates/{name}', f'target/rlib/{name}.rlib', f'target/stamp/{name}'):
-            if (ROOT / path).exists():
-                subprocess.run(['cp', '-rT', str(ROOT / path), str(repo / path)], check=True)
-    (repo / 'crates.txt').write_text(''.join(f'{name}:{needs[name]}\n' for name in names) + f'lists: {" ".join(names)}\n')
-    (crate / 'src' / 'lib.rt').write_text('// Lists of calls, computed: see proofs/.\n')
-    (crate / 'specs' / 'Lib.antt').write_text('')
-    (crate / 'proofs' / 'Lib.antt').write_text(''.join(f'pub mod List{i}\n' for i in range(len(texts))))
-    for i, text in enumerate(texts):
-        (crate / 'proofs' / f'List{i}.antt').write_text(text)
-    done = subprocess.run(['rt', 'check', 'lists'], cwd=repo, env=dict(os.environ, RT_CUT='300'))
-    print(f'{count} lists, {calls} calls: ' + ('all as computed' if done.returncode == 0 else 'DIFFERENT'))
-    sys.exit(done.returncode)
+    with tempfile.TemporaryDirectory() as folder:
+        repo = pathlib.Path(folder)
+        for name in names:
+            shutil.copytree(ROOT / 'crates' / name, repo / 'crates' / name, ignore=shutil.ignore_patterns('out', 'must-fail'))
+        crate = repo / 'crates' / 'lists'
+        for part in ('src', 'specs', 'proofs'):
+            (crate / part).mkdir(parents=True)
+        (repo / 'crates.txt').write_text(''.join(f'{name}:{needs[name]}\n' for name in names) + f'lists: {" ".join(names)}\n')
+        (crate / 'src' / 'lib.rt').write_text('// Lists of calls, computed: see proofs/.\n#![tactic(auto)]\n')
+        (crate / 'specs' / 'Lib.antt').write_text('')
+        (crate / 'proofs' / 'Lib.antt').write_text(''.join(f'pub mod List{i}\n' for i in range(len(texts))))
+        for i, text in enumerate(texts):
+            (crate / 'proofs' / f'List{i}.antt').write_text(text)
+        done = subprocess.run(['rt', 'check'], cwd=crate, capture_output=True, text=True)
+    as_computed = done.returncode == 0 and re.search('^logic=proved ', done.stdout, re.M)
+    if not as_computed:
+        print(done.stdout[-4000:], done.stderr[-4000:])
+    print(f'{count} lists, {calls} calls: ' + ('all as computed' if as_computed else 'DIFFERENT'))
+    sys.exit(0 if as_computed else 1)
 
 
 if __name__ == '__main__':

@@ -11,7 +11,7 @@ fn main() {
     };
     let archive = folder.join("libsheetstore.a");
     println!("cargo:rerun-if-changed={}", archive.display());
-    assert!(archive.is_file(), "{} is not there: build it with `rt staticlib sheetstore`, or name its folder in SHEETSTORE_LIB", archive.display());
+    assert!(archive.is_file(), "{} is not there: build it with `tools/build sheetstore`, or name its folder in SHEETSTORE_LIB", archive.display());
     println!("cargo:rustc-link-search=native={}", folder.display());
     println!("cargo:rustc-link-lib=static=sheetstore");
 }

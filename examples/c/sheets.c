@@ -2,7 +2,7 @@
  * a commit that is cut, commits in turn, and what a panel shows.
  * Exits 1 at the first answer that is not as expected.
  *
- *     rt staticlib sheetstore
+ *     tools/build sheetstore
  *     cc -Wall -Wextra -Werror -Iinclude examples/c/sheets.c target/staticlib/libsheetstore.a -o target/sheets && target/sheets
  */
 #include "sheetstore.h"
