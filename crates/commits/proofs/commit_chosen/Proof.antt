@@ -12,21 +12,13 @@ make-plan-requires c κs =
     let a = s.args in
     may_plan a.store.now a.copy.now a.used a.revision a.seat a.mask a.changed.now a.places.now s.requires
 
-returns : tie.Need-returns-then-m-eq0
-returns c =
-    let s = c in
-    let a = s.args in
-    let w = c.make_plan-plan in
-    says_nothing a.store.now a.copy.now a.used a.revision a.seat a.mask a.changed.now a.places.now s.requires
-    w.result.lines w.result.count w.result.next w.ensures a.stamp a.n c.if-m-eq0.true
-
 returns-2 : tie.Need-returns-then-store-next
 returns-2 c =
     let s = c in
     let a = s.args in
     let w = c.make_plan-plan in
     says-no_room a.store.now a.copy.now a.used a.revision a.seat a.mask a.changed.now a.places.now s.requires
-    w.result.lines w.result.count w.result.next w.ensures a.stamp a.n c.if-m-eq0.false c.if-store-next.true
+    w.result.lines w.result.count w.result.next w.ensures a.stamp a.n (omega arith) c.if-store-next.true
 
 write-some-requires : tie.Need-write_some-end-requires
 write-some-requires c κs =
@@ -44,7 +36,7 @@ returns-3 c =
     let v = c.write_some-end in
     says-stopped a.store.now a.copy.now a.used a.revision a.seat a.mask a.changed.now a.places.now s.requires
     w.result.lines w.result.count w.result.next w.ensures a.stamp a.n v.new.store v.result
-    c.if-m-eq0.false c.if-store-next.false v.ensures (omega (arith, c.if-end-next.true))
+    (omega arith) c.if-store-next.false v.ensures (omega (arith, c.if-end-next.true))
 
 returns-4 : tie.Need-returns
 returns-4 c =
@@ -54,7 +46,11 @@ returns-4 c =
     let v = c.write_some-end in
     says-done a.store.now a.copy.now a.used a.revision a.seat a.mask a.changed.now a.places.now s.requires
     w.result.lines w.result.count w.result.next w.ensures a.stamp a.n v.new.store v.result
-    c.if-m-eq0.false c.if-store-next.false v.ensures (omega (arith, c.if-end-next.false))
+    (omega arith) c.if-store-next.false v.ensures (omega (arith, c.if-end-next.false))
 
 pub commit_chosen_spec : {M : Type 1} → statement M
-commit_chosen_spec = tie.close (tie.spec make-plan-requires returns returns-2 write-some-requires (λ c. search rules) returns-3 (λ c. search rules) returns-4)
+commit_chosen_spec = tie.close (tie.spec make-plan-requires (λ c. let s = c in
+    let a = s.args in
+    let w = c.make_plan-plan in
+    says_nothing a.store.now a.copy.now a.used a.revision a.seat a.mask a.changed.now a.places.now s.requires
+    w.result.lines w.result.count w.result.next w.ensures a.stamp a.n (omega arith)) returns-2 write-some-requires (λ c. search rules) returns-3 (λ c. search rules) returns-4)

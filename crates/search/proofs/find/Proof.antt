@@ -55,16 +55,6 @@ kind-requires c κs =
     let l = c.search in
     (part_size a.store.now a.used (l.p - 1) P.whole (omega arith))
 
-search-less : tie.Need-search-smaller-then-kind-ne3 invariant-changes decreases-changes invariant-search decreases-search
-search-less c = search rules
-
-search-again : tie.Need-search-preserved-then-kind-ne3 invariant-changes decreases-changes invariant-search decreases-search
-search-again c =
-    let a = c.args in
-    let P = passed a.store.now a.n a.used c.requires.0 in
-    let l = c.search in
-    (l.invariant.0, omega arith, l.invariant.2 ∙ back-skip a.r a.used a.store.now a.i l.p (omega arith) (omega arith) (λ q. absurd (c.if-kind-ne3.true (c.kind.ensures ∙ q))))
-
 two-at-requires : tie.Need-two_at-revision-requires invariant-changes decreases-changes invariant-search decreases-search
 two-at-requires c κs = search rules
 
@@ -95,7 +85,8 @@ changes-holds c =
     let a = c.args in
     let P = passed a.store.now a.n a.used c.requires.0 in
     let l = c.search in
-    let k = sym c.kind.ensures ∙ c.if-kind-ne3.false in
+    let q : c.kind.result ≡ 3 = omega arith in
+    let k = sym c.kind.ensures ∙ q in
     let few = few-changes a.used (l.p - 1) a.store.now P.laws (omega arith) k in (
       l.invariant.0,
       (omega arith, omega (arith, few, c.two_at-m.ensures.0)),
@@ -194,8 +185,11 @@ find_spec =
     part-b-start
     part-b-end
     kind-requires
-    search-less
-    search-again
+    (λ c. search rules)
+    (λ c. let a = c.args in
+    let P = passed a.store.now a.n a.used c.requires.0 in
+    let l = c.search in
+    (l.invariant.0, omega arith, l.invariant.2 ∙ back-skip a.r a.used a.store.now a.i l.p (omega arith) (omega arith) (λ q. let e : c.kind.result ≡ 3 = c.kind.ensures ∙ q in absurd (omega arith))))
     two-at-requires
     cast-if2
     search-less-2

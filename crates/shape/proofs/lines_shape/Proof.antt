@@ -1,13 +1,22 @@
 -- `shape::lines_shape` meets its contract. The invariant: what is left gives the whole.
 -- Assumes nothing.
-use Prim.Native.Nat.{◌-◌, ◌≤◌}
+use Prim.Native.Nat.{ℕ, ◌-◌, ◌<◌, ◌≤◌}
+use mathlib.Core.Bool.{false, true}
 use mathlib.Core.Path.{◌∙◌, ◌≡◌, refl, sym}
 use native.Mathlib.Omega.{arith}
 use borrow.Author.Rules.{rules}
+use lib.Dec.{leb}
 use borrow.Author.Tests.{eq-eqb, le-leb, lt-leb, ne_eqb}
 use Rattle.shape.proofs.Turns.{lines-all, lines_none, lines_step, lines_left}
 use Rattle.shape.proofs.lines_shape.Statement.{statement}
 use Rattle.shape.proofs.lines_shape.Tie as tie
+
+-- the byte of the action, which the test before names
+above : (x : ℕ) → 1 ≤ x → 4 < x → leb x 4 ≡ false
+above x h g = lt-leb x 4 g
+
+within : (x : ℕ) → 1 ≤ x → x ≤ 4 → leb x 4 ≡ true
+within x h g = le-leb x 4 g
 
 abbrev invariant-loop : tie.invariant-loop-j
 invariant-loop s m j₀ j = (j ≤ m) × (lines_left s m j ≡ lines_left s m 0)
@@ -42,13 +51,6 @@ add-if2 c = search rules
 shared-slice-read-if2 : tie.Need-bounds-s-at-in-loop-j invariant-loop decreases-loop
 shared-slice-read-if2 c = search rules
 
-returns-2 : tie.Need-returns-then-s-at-gt4 invariant-loop decreases-loop
-returns-2 c =
-    let k = c in
-    let l = c.loop-j in
-    sym (sym (lines-all k.args.s.now k.args.m) ∙ sym l.invariant.1 ∙ lines_step k.args.s.now k.args.m l.j (omega arith)
-    ∙ rw (le-leb 1 _ c.if-s-at-lt1.false, lt-leb _ 4 c.if-s-at-gt4.true))
-
 add-if3 : tie.Need-overflow_add-at-in-loop-j-3 invariant-loop decreases-loop
 add-if3 c = search rules
 
@@ -60,7 +62,7 @@ returns-3 c =
     let k = c in
     let l = c.loop-j in
     sym (sym (lines-all k.args.s.now k.args.m) ∙ sym l.invariant.1 ∙ lines_step k.args.s.now k.args.m l.j (omega arith)
-    ∙ rw (le-leb 1 _ c.if-s-at-lt1.false, le-leb _ 4 c.if-s-at-gt4.false, ne_eqb _ 0 c.if-s-at-ne0.true))
+    ∙ rw (le-leb 1 _ c.if-s-at-lt1.false, within _ c.if-s-at-lt1.false (omega arith), ne_eqb _ 0 c.if-s-at-ne0.true))
 
 add-j : tie.Need-overflow_add-j invariant-loop decreases-loop
 add-j c = search rules
@@ -74,7 +76,7 @@ loop-again c =
     let l = c.loop-j in (
       omega arith,
       sym (lines_step k.args.s.now k.args.m l.j (omega arith)
-          ∙ rw (le-leb 1 _ c.if-s-at-lt1.false, le-leb _ 4 c.if-s-at-gt4.false, eq-eqb _ 0 c.if-s-at-ne0.false)) ∙ l.invariant.1,
+          ∙ rw (le-leb 1 _ c.if-s-at-lt1.false, within _ c.if-s-at-lt1.false (omega arith), eq-eqb _ 0 c.if-s-at-ne0.false)) ∙ l.invariant.1,
     )
 
 returns-4 : tie.Need-returns invariant-loop decreases-loop
@@ -97,7 +99,10 @@ lines_shape_spec =
     returns
     add-if2
     shared-slice-read-if2
-    returns-2
+    (λ c. let k = c in
+    let l = c.loop-j in
+    sym (sym (lines-all k.args.s.now k.args.m) ∙ sym l.invariant.1 ∙ lines_step k.args.s.now k.args.m l.j (omega arith)
+    ∙ rw (le-leb 1 _ c.if-s-at-lt1.false, above _ c.if-s-at-lt1.false (omega arith))))
     add-if3
     shared-slice-read-if3
     returns-3

@@ -1,5 +1,6 @@
 -- `store::laid_at` meets its contract: each way out answers one test of the chain.
 -- Assumes nothing.
+use native.Mathlib.Omega.{arith}
 use Prim.Native.Nat.{◌+◌}
 use mathlib.Core.Path.{◌∙◌, refl, sym}
 use borrow.Author.Rules.{rules}
@@ -23,25 +24,11 @@ returns c =
     sym (laid_is look a.w.at a.w.k (rows_of (a.w.last + 1) a.tab.now) (get_or a.b.now 6 0) (two_at a.b.now 2) a.b.now refl
     ∙ rw (lt-leb 1 _ c.if-seat-lt1.true))
 
-returns-2 : tie.Need-returns-then-seat-gt4
-returns-2 c =
-    let a = c.args in
-    let look = bytes_at (blocks_of a.w.n a.store.now) in
-    sym (laid_is look a.w.at a.w.k (rows_of (a.w.last + 1) a.tab.now) (get_or a.b.now 6 0) (two_at a.b.now 2) a.b.now refl
-    ∙ rw (le-leb 1 _ c.if-seat-lt1.false, lt-leb _ 4 c.if-seat-gt4.true))
-
 two-at-requires : tie.Need-two_at-m-requires
 two-at-requires c κs = search rules
 
 cast-m : tie.Need-overflow_cast-m
 cast-m c = search rules
-
-returns-3 : tie.Need-returns-then-m-lt1
-returns-3 c =
-    let a = c.args in
-    let look = bytes_at (blocks_of a.w.n a.store.now) in
-    sym (laid_is look a.w.at a.w.k (rows_of (a.w.last + 1) a.tab.now) (get_or a.b.now 6 0) c.two_at-m.result a.b.now c.two_at-m.ensures.0
-    ∙ rw (le-leb 1 _ c.if-seat-lt1.false, le-leb _ 4 c.if-seat-gt4.false, lt-leb 1 _ c.if-m-lt1.true))
 
 returns-4 : tie.Need-returns-then-m-gt32
 returns-4 c =
@@ -49,7 +36,7 @@ returns-4 c =
     let look = bytes_at (blocks_of a.w.n a.store.now) in
     sym (laid_is look a.w.at a.w.k (rows_of (a.w.last + 1) a.tab.now) (get_or a.b.now 6 0) c.two_at-m.result a.b.now
     c.two_at-m.ensures.0
-    ∙ rw (le-leb 1 _ c.if-seat-lt1.false, le-leb _ 4 c.if-seat-gt4.false, le-leb 1 _ c.if-m-lt1.false, lt-leb _ 32 c.if-m-gt32.true))
+    ∙ rw (le-leb 1 _ c.if-seat-lt1.false, le-leb (get_or a.b.now 6 0) 4 (omega arith), le-leb 1 c.two_at-m.result (omega arith), lt-leb _ 32 c.if-m-gt32.true))
 
 rules-requires : tie.Need-rules-requires
 rules-requires c κs = search rules
@@ -62,9 +49,8 @@ returns-5 c =
     a.b.now c.two_at-m.ensures.0
     ∙ rw (
       le-leb 1 _ c.if-seat-lt1.false,
-      le-leb _ 4 c.if-seat-gt4.false,
-      le-leb 1 _
-          c.if-m-lt1.false,
+      le-leb (get_or a.b.now 6 0) 4 (omega arith),
+      le-leb 1 c.two_at-m.result (omega arith),
       le-leb _ 32 c.if-m-gt32.false,
       sym c.rules.ensures ∙ c.if-not-rules.true,
     ))
@@ -80,9 +66,8 @@ returns-6 c =
     c.two_at-m.result a.b.now c.two_at-m.ensures.0
     ∙ rw (
       le-leb 1 _ c.if-seat-lt1.false,
-      le-leb _ 4
-          c.if-seat-gt4.false,
-      le-leb 1 _ c.if-m-lt1.false,
+      le-leb (get_or a.b.now 6 0) 4 (omega arith),
+      le-leb 1 c.two_at-m.result (omega arith),
       le-leb _ 32
           c.if-m-gt32.false,
       sym c.rules.ensures
@@ -102,10 +87,8 @@ returns-7 c =
     c.two_at-m.ensures.0
     ∙ rw (
       le-leb 1 _ c.if-seat-lt1.false,
-      le-leb _ 4
-          c.if-seat-gt4.false,
-      le-leb 1 _
-          c.if-m-lt1.false,
+      le-leb (get_or a.b.now 6 0) 4 (omega arith),
+      le-leb 1 c.two_at-m.result (omega arith),
       le-leb _ 32 c.if-m-gt32.false,
       sym
           c.rules.ensures ∙ c.if-not-rules.false,
@@ -119,10 +102,16 @@ laid_at_spec =
     (tie.spec
     shared-slice-read-seat
     returns
-    returns-2
+    (λ c. let a = c.args in
+    let look = bytes_at (blocks_of a.w.n a.store.now) in
+    sym (laid_is look a.w.at a.w.k (rows_of (a.w.last + 1) a.tab.now) (get_or a.b.now 6 0) (two_at a.b.now 2) a.b.now refl
+    ∙ rw (le-leb 1 _ c.if-seat-lt1.false, lt-leb (get_or a.b.now 6 0) 4 (omega arith))))
     two-at-requires
     cast-m
-    returns-3
+    (λ c. let a = c.args in
+    let look = bytes_at (blocks_of a.w.n a.store.now) in
+    sym (laid_is look a.w.at a.w.k (rows_of (a.w.last + 1) a.tab.now) (get_or a.b.now 6 0) c.two_at-m.result a.b.now c.two_at-m.ensures.0
+    ∙ rw (le-leb 1 _ c.if-seat-lt1.false, le-leb (get_or a.b.now 6 0) 4 (omega arith), lt-leb 1 c.two_at-m.result (omega arith))))
     returns-4
     rules-requires
     returns-5

@@ -55,17 +55,6 @@ kind-requires c κs =
     let l = c.loop-at in
     part_size s.args.store.now s.args.n (l.at + l.k) s.requires.whole (omega arith)
 
-same_length : tie.Need-shape_of-tab-then-kind-lt2 invariant-loop decreases-loop
-same_length c = search rules
-
-returns : tie.Need-returns-then-kind-lt2 invariant-loop decreases-loop
-returns c =
-    let s = c in
-    let a = s.args in
-    let look = bytes_at (blocks_of a.n a.store.now) in
-    let l = c.loop-at in
-    record { is = sym (sym l.invariant.3 ∙ turn-early look a.n a.store.now l.at l.k l.last l.tab (omega arith) (omega (arith, c.kind-kind.ensures, c.if-kind-lt2.true))); markless = tt }
-
 two-at-requires : tie.Need-two_at-requires invariant-loop decreases-loop
 two-at-requires c κs = search rules
 
@@ -84,7 +73,7 @@ returns-2 c =
     let a = s.args in
     let look = bytes_at (blocks_of a.n a.store.now) in
     let l = c.loop-at in
-    record { is = sym (sym l.invariant.3 ∙ turn-revision look a.n a.store.now l.at l.k l.last l.tab (omega arith) (omega (arith, c.kind-kind.ensures, c.if-kind-lt2.false)) (λ e. c.if-kind-ne4.true (c.kind-kind.ensures ∙ e)) (λ e. c.if-two_at-last.true (c.two_at.ensures.0 ∙ e))); markless = tt }
+    record { is = sym (sym l.invariant.3 ∙ turn-revision look a.n a.store.now l.at l.k l.last l.tab (omega arith) (omega (arith, c.kind-kind.ensures)) (λ e. c.if-kind-ne4.true (c.kind-kind.ensures ∙ e)) (λ e. c.if-two_at-last.true (c.two_at.ensures.0 ∙ e))); markless = tt }
 
 same-length-3 : tie.Need-shape_of-tab-then-k-ne0 invariant-loop decreases-loop
 same-length-3 c = search rules
@@ -168,7 +157,7 @@ returns-6 c =
     let a = s.args in
     let look = bytes_at (blocks_of a.n a.store.now) in
     let l = c.loop-at in
-    record { is = sym (sym l.invariant.3 ∙ turn_unlaid look a.n a.store.now l.at l.k l.last l.tab (omega arith) (kind-three (lent a.store.now (l.at + l.k)) (omega (arith, c.kind-kind.ensures, c.if-kind-lt2.false)) (λ e. c.if-kind-eq2.false (c.kind-kind.ensures ∙ e)) (λ e. c.if-kind-eq4.false (c.kind-kind.ensures ∙ e))) (sym c.two_at.ensures.0 ∙ c.if-two_at-last.false) (sym c.laid_at.ensures ∙ c.if-not-laid_at.true)); markless = tt }
+    record { is = sym (sym l.invariant.3 ∙ turn_unlaid look a.n a.store.now l.at l.k l.last l.tab (omega arith) (kind-three (lent a.store.now (l.at + l.k)) (omega (arith, c.kind-kind.ensures)) (λ e. c.if-kind-eq2.false (c.kind-kind.ensures ∙ e)) (λ e. c.if-kind-eq4.false (c.kind-kind.ensures ∙ e))) (sym c.two_at.ensures.0 ∙ c.if-two_at-last.false) (sym c.laid_at.ensures ∙ c.if-not-laid_at.true)); markless = tt }
 
 two-at-requires-2 : tie.Need-two_at-m-requires invariant-loop decreases-loop
 two-at-requires-2 c κs = search rules
@@ -199,18 +188,7 @@ loop-again-3 c =
     let a = s.args in
     let look = bytes_at (blocks_of a.n a.store.now) in
     let l = c.loop-at in
-    let g = c.grow in (omega arith, omega arith, search rules, sym (turn-commit look a.n a.store.now l.at l.k l.last l.tab (omega arith) (kind-three (lent a.store.now (l.at + l.k)) (omega (arith, c.kind-kind.ensures, c.if-kind-lt2.false)) (λ e. c.if-kind-eq2.false (c.kind-kind.ensures ∙ e)) (λ e. c.if-kind-eq4.false (c.kind-kind.ensures ∙ e))) (sym c.two_at.ensures.0 ∙ c.if-two_at-last.false) c.two_at-m.result g.new.tab c.two_at-m.ensures.0 (sym c.laid_at.ensures ∙ c.if-not-laid_at.false) g.ensures) ∙ l.invariant.3, λ z. plain-next a.store.now (l.at + l.k) (l.at + l.k + 1 + 0) (omega arith) (l.invariant.4 z) (λ e. c.if-kind-eq4.false (c.kind-kind.ensures ∙ e)))
-
-same-length-7 : tie.Need-shape_of-tab-then-k-gt32 invariant-loop decreases-loop
-same-length-7 c = search rules
-
-returns-7 : tie.Need-returns-then-k-gt32 invariant-loop decreases-loop
-returns-7 c =
-    let s = c in
-    let a = s.args in
-    let look = bytes_at (blocks_of a.n a.store.now) in
-    let l = c.loop-at in
-    record { is = sym (sym l.invariant.3 ∙ turn_many look a.n a.store.now l.at l.k l.last l.tab (omega arith) c.if-k-gt32.true); markless = tt }
+    let g = c.grow in (omega arith, omega arith, search rules, sym (turn-commit look a.n a.store.now l.at l.k l.last l.tab (omega arith) (kind-three (lent a.store.now (l.at + l.k)) (omega (arith, c.kind-kind.ensures)) (λ e. c.if-kind-eq2.false (c.kind-kind.ensures ∙ e)) (λ e. c.if-kind-eq4.false (c.kind-kind.ensures ∙ e))) (sym c.two_at.ensures.0 ∙ c.if-two_at-last.false) c.two_at-m.result g.new.tab c.two_at-m.ensures.0 (sym c.laid_at.ensures ∙ c.if-not-laid_at.false) g.ensures) ∙ l.invariant.3, λ z. plain-next a.store.now (l.at + l.k) (l.at + l.k + 1 + 0) (omega arith) (l.invariant.4 z) (λ e. c.if-kind-eq4.false (c.kind-kind.ensures ∙ e)))
 
 same-length-8 : tie.Need-shape_of-tab-then-met invariant-loop decreases-loop
 same-length-8 c = search rules
@@ -221,7 +199,7 @@ returns-8 c =
     let a = s.args in
     let look = bytes_at (blocks_of a.n a.store.now) in
     let l = c.loop-at in
-    record { is = sym (sym l.invariant.3 ∙ turn_end look a.n a.store.now l.at l.k l.last l.tab (omega arith) (omega (arith, c.if-k-gt32.false))); markless = tt }
+    record { is = sym (sym l.invariant.3 ∙ turn_end look a.n a.store.now l.at l.k l.last l.tab (omega arith) (omega arith)); markless = tt }
 
 same-length-9 : tie.Need-shape_of-tab invariant-loop decreases-loop
 same-length-9 c = search rules
@@ -232,7 +210,7 @@ returns-9 c =
     let a = s.args in
     let look = bytes_at (blocks_of a.n a.store.now) in
     let l = c.loop-at in
-    record { is = sym (sym l.invariant.3 ∙ turn_end look a.n a.store.now l.at l.k l.last l.tab (omega arith) (omega (arith, c.if-k-gt32.false))); markless = plain-all a.store.now l.at l.k (l.invariant.4 c.if-met.false) }
+    record { is = sym (sym l.invariant.3 ∙ turn_end look a.n a.store.now l.at l.k l.last l.tab (omega arith) (omega arith)); markless = plain-all a.store.now l.at l.k (l.invariant.4 c.if-met.false) }
 
 pub pass_spec : {M : Type 1} → statement M
 pass_spec =
@@ -249,8 +227,12 @@ pass_spec =
     part-b-start
     part-b-end
     kind-requires
-    same_length
-    returns
+    (λ c. search rules)
+    (λ c. let s = c in
+    let a = s.args in
+    let look = bytes_at (blocks_of a.n a.store.now) in
+    let l = c.loop-at in
+    record { is = sym (sym l.invariant.3 ∙ turn-early look a.n a.store.now l.at l.k l.last l.tab (omega arith) (omega (arith, c.kind-kind.ensures))); markless = tt })
     two-at-requires
     cast-if2
     add-if2
@@ -279,8 +261,12 @@ pass_spec =
     add-at-2
     loop-less-3
     loop-again-3
-    same-length-7
-    returns-7
+    (λ c. search rules)
+    (λ c. let s = c in
+    let a = s.args in
+    let look = bytes_at (blocks_of a.n a.store.now) in
+    let l = c.loop-at in
+    record { is = sym (sym l.invariant.3 ∙ turn_many look a.n a.store.now l.at l.k l.last l.tab (omega arith) (omega arith)); markless = tt })
     same-length-8
     returns-8
     same-length-9

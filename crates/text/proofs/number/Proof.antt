@@ -19,14 +19,11 @@ returns-2 c = c.value.ensures ∙ sym (number-one c.args.w.now c.if-w-eq1.true)
 shared-slice-read-if3 : tie.Need-bounds-w-0
 shared-slice-read-if3 c = search rules
 
-returns-3 : tie.Need-returns-then-w-eq48
-returns-3 c = sym (number-zero c.args.w.now (omega arith) c.if-w-eq48.true)
-
 value-requires-2 : tie.Need-value-requires-2
 value-requires-2 c κs = search rules
 
 returns-4 : tie.Need-returns
-returns-4 c = c.value-2.ensures ∙ sym (number_more c.args.w.now (omega arith) c.if-w-eq48.false)
+returns-4 c = c.value-2.ensures ∙ sym (number_more c.args.w.now (omega arith) (omega arith))
 
 pub number_spec : {M : Type 1} → statement M
 number_spec =
@@ -36,6 +33,6 @@ number_spec =
     value-requires
     returns-2
     shared-slice-read-if3
-    returns-3
+    (λ c. sym (number-zero c.args.w.now (omega arith) (omega arith)))
     value-requires-2
     returns-4)
