@@ -28,9 +28,9 @@ use Rattle.engine.proofs.Demand3.{CodeDemand3, Made, PanelRead, Read, code_deman
 pub data Happens : Buffers → Event → Buffers → Type 0 where
   called : {b : Buffers} {t : Turn} {r : Answer} {store' copy' : Bytes} → Valid t → Made b.store (copy_in b t.by) t.call r store' copy'
       → Happens b (calls t) (record { store = store'; copies = set b.copies (t.by - 1) copy' })
-  commit_cut_lem : {b : Buffers} {k stamp mask : ℕ} {f : Bytes} → 1 ≤ k → k ≤ 4 → stamp < 2 ^ 32 → Clear (both_conditions b.store (copy_in b k) (Commits stamp mask))
+  commit_cut : {b : Buffers} {k stamp mask : ℕ} {f : Bytes} → 1 ≤ k → k ≤ 4 → stamp < 2 ^ 32 → Clear (both_conditions b.store (copy_in b k) (Commits stamp mask))
       → CodeFoundCommitting b.store (copy_in b k) stamp mask f → Happens b (commit_fails k stamp mask f) (record { store = f; copies = b.copies })
-  clear_cut_lem : {b : Buffers} {f : Bytes} → CodeFoundClearing b.store f → Happens b (clear_fails f) (record { store = f; copies = b.copies })
+  clear_cut : {b : Buffers} {f : Bytes} → CodeFoundClearing b.store f → Happens b (clear_fails f) (record { store = f; copies = b.copies })
   release_cut : {b : Buffers} {R seat stamp : ℕ} {f : Bytes} → stamp < 2 ^ 32 → Clear (store_only_conditions b.store (Release R seat stamp))
       → CodeFoundReleasing b.store R seat stamp f → Happens b (release_fails R seat stamp f) (record { store = f; copies = b.copies })
   copied : {b : Buffers} {k : ℕ} {copy : Bytes} → Possible b (copy_is k copy) → Happens b (copy_is k copy) (after_event b (copy_is k copy))
@@ -74,8 +74,8 @@ pub record CodePowerCuts : Type 2 where
 -- an event of the code is one of the calls on buffers
 happens_is : {b b' : Buffers} {e : Event} → Happens b e b' → Possible b e × (b' ≡ after_event b e)
 happens_is (called {b = b} {t = t} v m) = (v, ap (λ (o : Out). record { store = o.store; copies = set b.copies (t.by - 1) o.copy }) (made_is m))
-happens_is (commit_cut_lem lo hi small free C) = ((lo, hi, small, free, found_in_lem C), refl)
-happens_is (clear_cut_lem C) = (found_in_lem C.1, refl)
+happens_is (commit_cut lo hi small free C) = ((lo, hi, small, free, found_in_lem C), refl)
+happens_is (clear_cut C) = (found_in_lem C.1, refl)
 happens_is (release_cut small free C) = ((small, free, found_releasing C), refl)
 happens_is (copied p) = (p, refl)
 

@@ -1,34 +1,20 @@
--- Four settings, by their elements; and whether there is a day of them, by the code's tests.
+-- Whether there is a day of settings, by what the code tests of four.
 -- Assumes nothing.
 use Prim.Native.Nat.{◌≤◌, ℕ}
 use mathlib.Core.Bool.{Bool, ◌&&◌, cond, false, not, true}
 use mathlib.Core.List.{List, [], ◌∷◌, map}
 use mathlib.Core.Path.{◌∙◌, ◌≡◌, ap, refl, sym}
-use native.Mathlib.Omega.{arith}
-use borrow.Author.Tests.{eqb-true, leb-true, ne_eqb, not-false, not-true}
+use borrow.Author.Tests.{eqb-true, leb-true, not-false, not-true}
 use lib.Dec.{eqb, leb}
-use lib.ListN.{get_or, length}
+use lib.ListN.{length}
 use Rattle.block.specs.Lists.{All, all}
 use Rattle.laws.proofs.Accepted.{both}
 use Rattle.rehearsal.specs.Outcomes.{can_run, no_day, outcome_of}
-use Rattle.rehearsal.specs.Rehearsal.{Sensible, day_of, in_range, is_sensible, no_setting}
+use Rattle.rehearsal.specs.Rehearsal.{Sensible, day_of, in_range, is_sensible}
 use Rattle.rehearsal.specs.RehearsalCalls.{tally_of}
 use Rattle.rehearsal.specs.declared.Outcome.{Outcome}
 use Rattle.rehearsal.specs.declared.Setting.{Setting}
 use Rattle.rehearsal.specs.declared.Tally.{Tally}
-
--- ---- a list of four
-
-abbrev pub four_of : List Setting → List Setting
-four_of l = get_or l 0 no_setting ∷ get_or l 1 no_setting ∷ get_or l 2 no_setting ∷ get_or l 3 no_setting ∷ []
-
-pub four_are : (l : List Setting) → length l ≡ 4 → four_of l ≡ l
-four_are [] e = absurd (omega (arith, e))
-four_are (a ∷ []) e = absurd (omega (arith, e))
-four_are (a ∷ b ∷ []) e = absurd (omega (arith, e))
-four_are (a ∷ b ∷ c ∷ []) e = absurd (omega (arith, e))
-four_are (a ∷ b ∷ c ∷ d ∷ []) e = refl
-four_are (a ∷ b ∷ c ∷ d ∷ x ∷ l) e = absurd (omega (arith, e))
 
 -- ---- what the tests say
 
@@ -63,10 +49,6 @@ module _ (l : List Setting) (n : ℕ) where
 
   pub day_so : can_run l n ≡ true → record { good = true; rows = map tally_of (day_of l n).rows } ≡ outcome_of l n
   day_so e = sym (ap by_test_lem e)
-
-  -- settings that are not four
-  pub not-four : (length l ≡ 4 → ⊥) → no_day ≡ outcome_of l n
-  not-four ne = none_so (ap (λ (t : Bool). t && (in_range n && all is_sensible l)) (ne_eqb (length l) 4 ne))
 
 -- what the code tests of four
 module _ (a b c d : Setting) (n : ℕ) (r s t u v : Bool) (er : r ≡ in_range n) (es : s ≡ is_sensible a) (et : t ≡ is_sensible b) (eu : u ≡ is_sensible c) (ev : v ≡ is_sensible d) where

@@ -13,7 +13,7 @@ returns : tie.Need-returns-then-k-s
 returns c = search rules
 
 returns-2 : tie.Need-returns-else-k-s
-returns-2 c = sym (get_or-eq_default c.before.args.s.now 0 c.if-k-s.false)
+returns-2 c = sym (get_or-eq_default c.args.s.now 0 c.if-k-s.false)
 
 pub byte_spec : {M : Type 1} → statement M
 byte_spec = tie.close (tie.spec shared-slice-read-result returns returns-2)

@@ -8,7 +8,7 @@ use Rattle.block.proofs.check.Statement.{statement}
 use Rattle.block.proofs.check.Tie as tie
 
 returns : tie.Need-returns-then-s-ne512
-returns c = sym (not-sealed c.before.before.args.s.now c.if-s-ne512.true)
+returns c = sym (not-sealed c.args.s.now c.if-s-ne512.true)
 
 sums-of-requires : tie.Need-sums_of-t-requires
 sums-of-requires c κs = search rules
@@ -21,10 +21,9 @@ cast-if2 c = search rules
 
 returns-2 : tie.Need-returns-then-get16-t
 returns-2 c =
-    let t = c.before.before.before in
-    first_differs t.before.before.before.args.s.now t.sums_of-t.result.a t.sums_of-t.result.b t.before.if-s-ne512.false t.sums_of-t.ensures
-    (λ i. omega (arith, t.before.before.shared_slice_known-1.given i))
-    c.before.before.get16.ensures c.if-get16-t.true
+    first_differs c.args.s.now c.sums_of-t.result.a c.sums_of-t.result.b c.if-s-ne512.false c.sums_of-t.ensures
+    (λ i. omega (arith, c.shared_slice_known-1.given i))
+    c.get16.ensures c.if-get16-t.true
 
 get16-requires-2 : tie.Need-get16-requires-2
 get16-requires-2 c κs = search rules
@@ -34,10 +33,9 @@ cast-result c = search rules
 
 returns-3 : tie.Need-returns
 returns-3 c =
-    let t = c.before.before.before.before.before in
-    first-same t.before.before.before.args.s.now t.sums_of-t.result.a t.sums_of-t.result.b t.before.if-s-ne512.false t.sums_of-t.ensures
-    (λ i. omega (arith, t.before.before.shared_slice_known-1.given i))
-    c.before.before.before.before.get16.ensures c.before.before.if-get16-t.false c.before.get16-2.ensures
+    first-same c.args.s.now c.sums_of-t.result.a c.sums_of-t.result.b c.if-s-ne512.false c.sums_of-t.ensures
+    (λ i. omega (arith, c.shared_slice_known-1.given i))
+    c.get16.ensures c.if-get16-t.false c.get16-2.ensures
 
 pub check_spec : {M : Type 1} → statement M
 check_spec =

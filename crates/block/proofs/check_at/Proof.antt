@@ -13,7 +13,7 @@ use Rattle.block.proofs.check_at.Tie as tie
 
 returns : tie.Need-returns-then-s-j
 returns c =
-    let g = c.before.before.args in
+    let g = c.args in
     sym (not-sealed (block_at g.s.now g.j) (no_block g.s.now g.j c.if-s-j.true))
 
 mul_at : tie.Need-overflow_mul-at
@@ -36,7 +36,7 @@ check-requires c κs = search rules
 
 returns-2 : tie.Need-returns
 returns-2 c =
-    let g = c.before.before.before.before.args in
+    let g = c.args in
     c.check.ensures ∙ ap sealed (part_is g.s.now g.j (512 * g.j + 512 - 512 * g.j) (omega arith))
 
 pub check_at_spec : {M : Type 1} → statement M

@@ -20,7 +20,7 @@ decreases-loop s₀ from to end i₀ s i = end - i
 
 loop-holds : tie.Need-loop-i-init invariant-loop decreases-loop
 loop-holds c =
-    let a = c.before.args in
+    let a = c.args in
     let e : c.if-s-end.end ≡ min a.to (length a.s.now) = ⊎_elim (λ h. omega arith) (λ h. omega arith) c.if-s-end.branch-raw in
     (e, refl, refl)
 
@@ -35,8 +35,8 @@ loop-less c = search rules
 
 loop-again : tie.Need-loop-i-preserved invariant-loop decreases-loop
 loop-again c =
-    let l = c.before.loop-i in
-    let to = c.before.before.before.args.to in
+    let l = c.loop-i in
+    let to = c.args.to in
     (l.invariant.0, length-set l.s l.i 0 ∙ l.invariant.1, clear_step l.i to l.s (omega arith) ∙ l.invariant.2)
 
 same_length : tie.Need-shape_of-s invariant-loop decreases-loop
@@ -44,8 +44,8 @@ same_length c = search rules
 
 returns : tie.Need-returns invariant-loop decreases-loop
 returns c =
-    let l = c.before.loop-i in
-    sym (clear-done l.i c.before.before.before.args.to l.s (omega arith)) ∙ l.invariant.2
+    let l = c.loop-i in
+    sym (clear-done l.i c.args.to l.s (omega arith)) ∙ l.invariant.2
 
 pub clear_spec : {M : Type 1} → statement M
 clear_spec =

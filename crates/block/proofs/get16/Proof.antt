@@ -29,11 +29,11 @@ add-result c = search rules
 
 returns : tie.Need-returns-then-k-s
 returns c =
-    let g = c.before.before.before.before.before.before.args in
-    two_is g.s.now g.k c.before.before.wide16-low.ensures.0 (c.wide16-high.ensures.0 ∙ c.before.byte.ensures)
+    let g = c.args in
+    two_is g.s.now g.k c.wide16-low.ensures.0 (c.wide16-high.ensures.0 ∙ c.byte.ensures)
 
 returns-2 : tie.Need-returns-else-k-s
-returns-2 c = two_past c.before.before.args.s.now c.before.before.args.k c.if-k-s.false
+returns-2 c = two_past c.args.s.now c.args.k c.if-k-s.false
 
 pub get16_spec : {M : Type 1} → statement M
 get16_spec =

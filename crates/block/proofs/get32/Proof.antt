@@ -59,15 +59,15 @@ add-result-3 c = search rules
 
 returns : tie.Need-returns-then-k-s
 returns c =
-    let g = c.before.before.before.before.before.before.before.before.before.before.args in
+    let g = c.args in
     four_is g.s.now g.k
-    c.before.before.before.before.before.before.wide32.ensures.0
-    (c.before.before.before.before.wide32-then-k-s.ensures.0 ∙ c.before.before.before.before.before.byte.ensures)
-    (c.before.before.wide32-then-k-s-2.ensures.0 ∙ c.before.before.before.byte-then-k-s.ensures)
-    (c.wide32-then-k-s-3.ensures.0 ∙ c.before.byte-then-k-s-2.ensures)
+    c.wide32.ensures.0
+    (c.wide32-then-k-s.ensures.0 ∙ c.byte.ensures)
+    (c.wide32-then-k-s-2.ensures.0 ∙ c.byte-then-k-s.ensures)
+    (c.wide32-then-k-s-3.ensures.0 ∙ c.byte-then-k-s-2.ensures)
 
 returns-2 : tie.Need-returns-else-k-s
-returns-2 c = four_past c.before.before.args.s.now c.before.before.args.k c.if-k-s.false
+returns-2 c = four_past c.args.s.now c.args.k c.if-k-s.false
 
 pub get32_spec : {M : Type 1} → statement M
 get32_spec =

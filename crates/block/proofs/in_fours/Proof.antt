@@ -30,32 +30,32 @@ loop-holds c = ((refl, omega arith), ((omega arith, omega arith), (omega arith, 
 -- what a step does to the two pairs of sums and to w
 module _ (c : tie.After-read_four-x invariant-loop decreases-loop) where
   abbrev i : ℕ
-  i = c.before.before.loop-i.i
+  i = c.loop-i.i
 
   abbrev s : List ℕ
-  s = c.before.before.before.before.args.s.now
+  s = c.args.s.now
 
   abbrev even : ℕ
-  even = c.before.before.loop-i.even
+  even = c.loop-i.even
 
   abbrev odd : ℕ
-  odd = c.before.before.loop-i.odd
+  odd = c.loop-i.odd
 
   small : (k : ℕ) → get_or s k 0 < 256
-  small k = omega (arith, c.before.before.before.shared_slice_known-1.given k)
+  small k = omega (arith, c.shared_slice_known-1.given k)
 
   inside : i ≤ 504
   inside = omega arith
 
   evens : (even + c.read_four-x.result.even < 4_294_967_296) × Pair (even + c.read_four-x.result.even) (i + 4)
   evens =
-      pair_grows even c.read_four-x.result.even (get_or s i 0) (get_or s (i + 2) 0) i c.read_four-x.ensures.0 (small i) (small (i + 2)) inside c.before.before.loop-i.invariant.1.0
+      pair_grows even c.read_four-x.result.even (get_or s i 0) (get_or s (i + 2) 0) i c.read_four-x.ensures.0 (small i) (small (i + 2)) inside c.loop-i.invariant.1.0
 
   odds : (odd + c.read_four-x.result.odd < 4_294_967_296) × Pair (odd + c.read_four-x.result.odd) (i + 4)
   odds =
-      pair_grows odd c.read_four-x.result.odd (get_or s (i + 1) 0) (get_or s (i + 3) 0) i c.read_four-x.ensures.1 (small (i + 1)) (small (i + 3)) inside c.before.before.loop-i.invariant.1.1
+      pair_grows odd c.read_four-x.result.odd (get_or s (i + 1) 0) (get_or s (i + 3) 0) i c.read_four-x.ensures.1 (small (i + 1)) (small (i + 3)) inside c.loop-i.invariant.1.1
 
-  counted : (c.before.before.loop-i.left - 1) * c.read_four-x.result.all ≤ 128520
+  counted : (c.loop-i.left - 1) * c.read_four-x.result.all ≤ 128520
   counted = mul-le-mul {n₂ = 126} {m₂ = 1020} (omega arith) c.read_four-x.ensures.3
 
 add-even : tie.Need-overflow_add-even invariant-loop decreases-loop
@@ -73,7 +73,7 @@ add-w c = omega (arith, counted c.before.before.before)
 loop-again : tie.Need-loop-i-preserved invariant-loop decreases-loop
 loop-again c =
     let a = c.before.before.before in
-    let t = a.before.before.loop-i in
+    let t = a.loop-i in
     let r = a.read_four-x in
     let e = taken-four 508 (s a) t.i (omega arith) in
     let at : (k : ℕ) → k < 508 → get_or (take 508 (s a)) k 0 < 256 = λ k h. subst (λ (x : ℕ). x < 256) (sym (get_or-take 508 (s a) k 0 h)) (small a k) in (
@@ -87,7 +87,7 @@ loop-again c =
 
 returns : tie.Need-returns invariant-loop decreases-loop
 returns c =
-    let t = c.before.loop-i in
+    let t = c.loop-i in
     let none : t.left ≡ 0 = omega arith in
     (sym t.invariant.3 ∙ rw none, omega arith, omega arith)
 

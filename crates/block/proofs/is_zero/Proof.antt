@@ -32,13 +32,11 @@ loop-less c = search rules
 
 loop-again : tie.Need-loop-i-preserved invariant-loop decreases-loop
 loop-again c =
-    let l = c.before.before in
-    (omega arith, zero-step l.before.args.s.now l.loop-i.i l.loop-i.any c.before.loop-i-test.true ∙ l.loop-i.invariant.1)
+    (omega arith, zero-step c.args.s.now c.loop-i.i c.loop-i.any c.loop-i-test.true ∙ c.loop-i.invariant.1)
 
 returns : tie.Need-returns invariant-loop decreases-loop
 returns c =
-    let l = c.before in
-    sym (zero-done l.before.args.s.now l.loop-i.i l.loop-i.any c.loop-i-test.false) ∙ l.loop-i.invariant.1
+    sym (zero-done c.args.s.now c.loop-i.i c.loop-i.any c.loop-i-test.false) ∙ c.loop-i.invariant.1
 
 pub is_zero_spec : {M : Type 1} → statement M
 is_zero_spec = tie.close (tie.spec invariant-loop decreases-loop loop-holds shared-slice-read-any add-i loop-less loop-again returns)

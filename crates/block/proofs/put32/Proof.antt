@@ -43,15 +43,15 @@ same_length c = search rules
 
 returns : tie.Need-returns-then-k-s
 returns c =
-    let g = c.before.before.before.before.before.before.before.before.before.before.before.before.before.before.before.before.before.before.args in
+    let g = c.args in
     with_four_is g.s.now g.k g.v
-    c.before.before.before.before.before.before.before.before.before.before.before.before.before.before.put.ensures
-    c.before.before.before.before.before.before.before.before.before.before.put-then-k-s.ensures
-    c.before.before.before.before.before.before.put-then-k-s-2.ensures
-    c.before.before.put-then-k-s-3.ensures
+    c.put.ensures
+    c.put-then-k-s.ensures
+    c.put-then-k-s-2.ensures
+    c.put-then-k-s-3.ensures
 
 returns-2 : tie.Need-returns-else-k-s
-returns-2 c = with_four_past c.before.before.args.s.now c.before.before.args.k c.if-k-s.false c.before.before.args.v
+returns-2 c = with_four_past c.args.s.now c.args.k c.if-k-s.false c.args.v
 
 pub put32_spec : {M : Type 1} → statement M
 put32_spec =

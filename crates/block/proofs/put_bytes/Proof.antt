@@ -23,8 +23,8 @@ sub-n c = search rules
 
 loop-holds : tie.Need-loop-i-init invariant-loop decreases-loop
 loop-holds c =
-    let a = c.before.before.args in
-    let e : c.before.if-at-s.n ≡ length a.s.now - a.at = ⊎_elim (λ h. omega arith) (λ h. omega arith) c.before.if-at-s.branch-raw in
+    let a = c.args in
+    let e : c.if-at-s.n ≡ length a.s.now - a.at = ⊎_elim (λ h. omega arith) (λ h. omega arith) c.if-at-s.branch-raw in
     let f : c.if-b-n.n ≡ min (length a.b.now) (length a.s.now - a.at) = ⊎_elim (λ h. omega arith) (λ h. omega arith) c.if-b-n.branch-raw in
     (f, omega arith, refl, write_all a.at a.b.now a.s.now)
 
@@ -45,8 +45,8 @@ loop-less c = search rules
 
 loop-again : tie.Need-loop-i-preserved invariant-loop decreases-loop
 loop-again c =
-    let l = c.before.before.loop-i in
-    let a = c.before.before.before.before.before.args in (
+    let l = c.loop-i in
+    let a = c.args in (
       l.invariant.0,
       omega arith,
       length-set l.s (a.at + l.i) (get_or a.b.now l.i 0) ∙ l.invariant.2,
@@ -58,8 +58,8 @@ same_length c = search rules
 
 returns : tie.Need-returns invariant-loop decreases-loop
 returns c =
-    let l = c.before.loop-i in
-    let a = c.before.before.before.before.args in
+    let l = c.loop-i in
+    let a = c.args in
     sym (write_done a.at l.i a.b.now l.s (omega arith)) ∙ l.invariant.3
 
 pub put_bytes_spec : {M : Type 1} → statement M

@@ -13,9 +13,9 @@ use Rattle.block.proofs.read_four.Tie as tie
 
 returns : tie.Need-returns
 returns c =
-    let s = c.before.before.args.s.now in
-    let k = c.before.before.args.k in
-    let small : (j : ℕ) → get_or s j 0 < 256 = λ j. omega (arith, c.before.shared_slice_known-1.given j) in
+    let s = c.args.s.now in
+    let k = c.args.k in
+    let small : (j : ℕ) → get_or s j 0 < 256 = λ j. omega (arith, c.shared_slice_known-1.given j) in
     word_adds c.word-x.result (get_or s k 0) (get_or s (k + 1) 0) (get_or s (k + 2) 0) (get_or s (k + 3) 0) (c.word-x.ensures ∙ sym (four_is s k refl refl refl refl))
     (small k) (small (k + 1)) (small (k + 2)) (small (k + 3))
 

@@ -10,10 +10,10 @@ use Rattle.block.proofs.seal.Statement.{statement}
 use Rattle.block.proofs.seal.Tie as tie
 
 below : (c : tie.After-sums_of-t) → (c.sums_of-t.result.a < 65_521) × (c.sums_of-t.result.b < 65_521)
-below c = rw c.sums_of-t.ensures at (sums-small 0 0 (take 508 c.before.before.before.args.s.now) (omega arith) (omega arith))
+below c = rw c.sums_of-t.ensures at (sums-small 0 0 (take 508 c.args.s.now) (omega arith) (omega arith))
 
 returns : tie.Need-returns-then-s-ne512
-returns c = seal_not c.before.before.args.s.now c.if-s-ne512.true
+returns c = seal_not c.args.s.now c.if-s-ne512.true
 
 sums-of-requires : tie.Need-sums_of-t-requires
 sums-of-requires c κs = search rules
@@ -35,9 +35,8 @@ same_length c = search rules
 
 returns-2 : tie.Need-returns
 returns-2 c =
-    let t = c.before.before.before.before.before.before.before.before.before.before in
-    seal_by t.before.before.before.args.s.now t.sums_of-t.result.a t.sums_of-t.result.b t.before.if-s-ne512.false t.sums_of-t.ensures
-    c.before.before.before.before.before.before.before.put16.ensures c.before.before.put16-2.ensures
+    seal_by c.args.s.now c.sums_of-t.result.a c.sums_of-t.result.b c.if-s-ne512.false c.sums_of-t.ensures
+    c.put16.ensures c.put16-2.ensures
 
 pub seal_spec : {M : Type 1} → statement M
 seal_spec =

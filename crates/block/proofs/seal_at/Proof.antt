@@ -9,7 +9,7 @@ use Rattle.block.proofs.seal_at.Tie as tie
 
 returns : tie.Need-returns-then-s-j
 returns c =
-    let g = c.before.before.args in
+    let g = c.args in
     seal_at-not g.s.now g.j c.if-s-j.true
 
 mul_at : tie.Need-overflow_mul-at
@@ -35,8 +35,8 @@ same_length c = search rules
 
 returns-2 : tie.Need-returns
 returns-2 c =
-    let g = c.before.before.before.before.before.before.args in
-    seal_at_by g.s.now g.j (512 * g.j + 512 - 512 * g.j) (omega arith) c.before.before.before.before.if-s-j.false c.before.before.seal.ensures
+    let g = c.args in
+    seal_at_by g.s.now g.j (512 * g.j + 512 - 512 * g.j) (omega arith) c.if-s-j.false c.seal.ensures
 
 pub seal_at_spec : {M : Type 1} → statement M
 seal_at_spec =

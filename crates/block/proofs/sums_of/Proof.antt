@@ -22,8 +22,8 @@ invariant-loop s end n a₀ b₀ i₀ a b i =
 abbrev decreases-loop : tie.decreases-loop-i
 decreases-loop s end n a₀ b₀ i₀ a b i = end - i
 
-end_is : (c : tie.After-row_known-1 invariant-loop decreases-loop) → c.before.if-end-gt508.end ≡ min 508 (length c.before.before.before.args.s.now)
-end_is c = ⊎_elim (λ h. omega arith) (λ h. omega arith) c.before.if-end-gt508.branch-raw
+end_is : (c : tie.After-row_known-1 invariant-loop decreases-loop) → c.if-end-gt508.end ≡ min 508 (length c.args.s.now)
+end_is c = ⊎_elim (λ h. omega arith) (λ h. omega arith) c.if-end-gt508.branch-raw
 
 in-fours-requires : tie.Need-in_fours-t-requires invariant-loop decreases-loop
 in-fours-requires c κs = (omega (arith, end_is c), omega (arith, end_is c))
@@ -31,8 +31,8 @@ in-fours-requires c κs = (omega (arith, end_is c), omega (arith, end_is c))
 loop-holds : tie.Need-loop-i-init invariant-loop decreases-loop
 loop-holds c =
     let r = c.before in
-    let s = r.before.before.before.args.s.now in
-    let n = r.before.if-end-gt508.end / 4 in
+    let s = r.args.s.now in
+    let n = r.if-end-gt508.end / 4 in
     let e = end_is r in
     let f : fours 0 0 0 0 0 n (take 508 s) ≡ (c.in_fours-t.result.a, c.in_fours-t.result.b) = c.in_fours-t.ensures.0 in (
       e,
@@ -45,20 +45,18 @@ loop-holds c =
 
 loop-again : tie.Need-loop-i-preserved invariant-loop decreases-loop
 loop-again c =
-    let l = c.before.before.before in
-    let s = l.before.before.before.before.before.args.s.now in (
-      l.loop-i.invariant.0,
+    let s = c.args.s.now in (
+      c.loop-i.invariant.0,
       omega arith,
       omega arith,
       omega arith,
-      sym (sums-step s l.loop-i.i 508 l.loop-i.a l.loop-i.b c.wide32-a.result (omega arith) c.wide32-a.ensures.0) ∙ l.loop-i.invariant.4,
+      sym (sums-step s c.loop-i.i 508 c.loop-i.a c.loop-i.b c.wide32-a.result (omega arith) c.wide32-a.ensures.0) ∙ c.loop-i.invariant.4,
     )
 
 returns : tie.Need-returns invariant-loop decreases-loop
 returns c =
-    let l = c.before in
-    let s = l.before.before.before.before.before.args.s.now in
-    sym l.loop-i.invariant.4 ∙ sums-done s l.loop-i.i 508 (l.loop-i.a % 65_521) (l.loop-i.b % 65_521) (omega arith)
+    let s = c.args.s.now in
+    sym c.loop-i.invariant.4 ∙ sums-done s c.loop-i.i 508 (c.loop-i.a % 65_521) (c.loop-i.b % 65_521) (omega arith)
 
 pub sums_of_spec : {M : Type 1} → statement M
 sums_of_spec =

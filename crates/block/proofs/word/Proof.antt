@@ -10,10 +10,10 @@ use Rattle.block.proofs.word.Tie as tie
 
 returns : tie.Need-returns
 returns c =
-    let g = c.before.before.before.before.before.before.before.before.before.args in
-    let x0 = c.before.before.before.before.before.before.wide32 in
-    let x1 = c.before.before.before.before.wide32-2 in
-    let x2 = c.before.before.wide32-3 in
+    let g = c.args in
+    let x0 = c.wide32 in
+    let x1 = c.wide32-2 in
+    let x2 = c.wide32-3 in
     let x3 = c.wide32-4 in
     let e : x0.result + 256 * x1.result + 65536 * x2.result + 16777216 * x3.result ≡ x0.result + 256 * (x1.result + 256 * (x2.result + 256 * x3.result)) = omega arith in
     e ∙ four_is g.s.now g.k x0.ensures.0 x1.ensures.0 x2.ensures.0 x3.ensures.0

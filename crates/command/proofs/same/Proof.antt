@@ -22,7 +22,7 @@ loop-holds c = (omega arith, refl)
 
 returns : tie.Need-returns-then-b-i invariant-loop decreases-loop
 unfolding is_word
-returns c = let l = c in let a = l.args in sym (same-short a.a.now a.b.now l.loop-i.i (omega arith) (omega arith)) ∙ l.loop-i.invariant.1
+returns c = let a = c.args in sym (same-short a.a.now a.b.now c.loop-i.i (omega arith) (omega arith)) ∙ c.loop-i.invariant.1
 
 shared-slice-read-if2 : tie.Need-bounds-a-i invariant-loop decreases-loop
 shared-slice-read-if2 c = search rules
@@ -32,7 +32,7 @@ shared-slice-read-if2-2 c = search rules
 
 returns-2 : tie.Need-returns-then-a-i invariant-loop decreases-loop
 unfolding is_word
-returns-2 c = let l = c in let a = l.args in sym (same-other a.a.now a.b.now l.loop-i.i (omega arith) (omega arith) c.if-a-i.true) ∙ l.loop-i.invariant.1
+returns-2 c = let a = c.args in sym (same-other a.a.now a.b.now c.loop-i.i (omega arith) (omega arith) c.if-a-i.true) ∙ c.loop-i.invariant.1
 
 add-i : tie.Need-overflow_add-i invariant-loop decreases-loop
 add-i c = search rules
@@ -41,11 +41,11 @@ loop-less : tie.Need-loop-i-smaller invariant-loop decreases-loop
 loop-less c = search rules
 
 loop-again : tie.Need-loop-i-preserved invariant-loop decreases-loop
-loop-again c = let l = c in let a = l.args in (omega arith, sym (same_next a.a.now a.b.now l.loop-i.i (omega arith) (omega arith) c.if-a-i.false) ∙ l.loop-i.invariant.1)
+loop-again c = let a = c.args in (omega arith, sym (same_next a.a.now a.b.now c.loop-i.i (omega arith) (omega arith) c.if-a-i.false) ∙ c.loop-i.invariant.1)
 
 returns-3 : tie.Need-returns invariant-loop decreases-loop
 unfolding is_word
-returns-3 c = let l = c in let a = l.args in sym (same_end a.a.now a.b.now l.loop-i.i (omega arith)) ∙ l.loop-i.invariant.1
+returns-3 c = let a = c.args in sym (same_end a.a.now a.b.now c.loop-i.i (omega arith)) ∙ c.loop-i.invariant.1
 
 pub same_spec : {M : Type 1} → statement M
 same_spec =

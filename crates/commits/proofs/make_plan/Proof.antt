@@ -44,9 +44,8 @@ spot c =
 
 row-of-requires : tie.Need-row_of-row-requires invariant-loop decreases-loop
 row-of-requires c κs =
-    let s = c in
     let k = c.loop-left.invariant.0 in
-    (s.requires.0, (s.requires.1.0, (s.requires.1.1.0, ((low c).0, omega (arith, k.low, k.count, s.requires.1.1.1)))))
+    (c.requires.0, (c.requires.1.0, (c.requires.1.1.0, ((low c).0, omega (arith, k.low, k.count, c.requires.1.1.1)))))
 
 loop-again : tie.Need-loop-left-preserved-then-action-eq0 invariant-loop decreases-loop
 loop-again c =

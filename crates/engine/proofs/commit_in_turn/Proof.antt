@@ -79,10 +79,9 @@ same-length-10 c = search rules
 
 returns-5 : tie.Need-returns-else-turn-v
 returns-5 c =
-    let s = c in
-    let a = s.args in
+    let a = c.args in
     let f = c.in_form in
-    turn-done a.store.now a.copy.now a.turn a.stamp a.mask c.in-Ready.v (subst (MayCommit a.store.now a.copy.now) c.in-Ready.is c.check_to_commit-c.ensures) (sym f.ensures ∙ c.if-not-in_form.false) (omega (arith, s.ranges.stamp)) c.if-turn-v.false c.commit-filed.ensures.is
+    turn-done a.store.now a.copy.now a.turn a.stamp a.mask c.in-Ready.v (subst (MayCommit a.store.now a.copy.now) c.in-Ready.is c.check_to_commit-c.ensures) (sym f.ensures ∙ c.if-not-in_form.false) (omega (arith, c.ranges.stamp)) c.if-turn-v.false c.commit-filed.ensures.is
 
 pub commit_in_turn_spec : {M : Type 1} → statement M
 commit_in_turn_spec =

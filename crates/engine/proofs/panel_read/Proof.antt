@@ -14,7 +14,7 @@ part-at-requires : tie.Need-part_at-requires
 part-at-requires c κs = c.panel_place-place.ensures.inside
 
 returns : tie.Need-returns
-returns c = subst (λ (p : Place). PartAt c.args.store c.part_at.result (part_of p)) c.before.panel_place-place.ensures.is c.part_at.ensures
+returns c = subst (λ (p : Place). PartAt c.args.store c.part_at.result (part_of p)) c.panel_place-place.ensures.is c.part_at.ensures
 
 pub panel_read_spec : {M : Type 1} → statement M
 panel_read_spec = tie.close (tie.spec panel-place-requires part-at-requires returns)

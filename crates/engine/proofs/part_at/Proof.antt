@@ -56,7 +56,7 @@ returns-2 : tie.Need-returns-in-InStore
 returns-2 c = part_there c.args.store c.in-InStore.p (sym (ap place_of c.in-InStore.is))
 
 returns-3 : tie.Need-returns-in-InCopy
-returns-3 c = let s = c in part_none s.args.store c.in-InCopy.field-0 (subst (Inside s.args.store.now []) c.in-InCopy.is s.requires) (sym (ap place_of c.in-InCopy.is))
+returns-3 c = part_none c.args.store c.in-InCopy.field-0 (subst (Inside c.args.store.now []) c.in-InCopy.is c.requires) (sym (ap place_of c.in-InCopy.is))
 
 pub part_at_spec : {M : Type 1} → statement M
 part_at_spec =

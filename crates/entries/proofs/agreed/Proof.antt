@@ -10,13 +10,11 @@ unlike-requires c κs = search rules
 
 returns : tie.Need-returns-then-not-unlike
 returns c =
-    let k = c in
-    agreed_so k.args.store.now k.args.copy.now k.args.i k.args.p c.unlike.ensures (c.if-not-unlike.true)
+    agreed_so c.args.store.now c.args.copy.now c.args.i c.args.p c.unlike.ensures (c.if-not-unlike.true)
 
 returns-2 : tie.Need-returns
 returns-2 c =
-    let k = c in
-    agreed-not k.args.store.now k.args.copy.now k.args.i k.args.p c.unlike.ensures (c.if-not-unlike.false)
+    agreed-not c.args.store.now c.args.copy.now c.args.i c.args.p c.unlike.ensures (c.if-not-unlike.false)
 
 pub agreed_spec : {M : Type 1} → statement M
 agreed_spec = tie.close (tie.spec unlike-requires returns returns-2)

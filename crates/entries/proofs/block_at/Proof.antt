@@ -11,13 +11,11 @@ look-up-requires c κs = search rules
 
 returns : tie.Need-returns-then-b-f
 returns c =
-    let k = c in
-    holding_found k.args.store.now k.args.v k.requires.0 k.args.b k.args.i k.requires.2 c.look_up-g.ensures
+    holding_found c.args.store.now c.args.v c.requires.0 c.args.b c.args.i c.requires.2 c.look_up-g.ensures
 
 returns-2 : tie.Need-returns
 returns-2 c =
-    let k = c in
-    holding_unnamed k.args.store.now k.args.v k.requires.0 k.args.b k.args.i k.requires.1 k.requires.2 (omega arith)
+    holding_unnamed c.args.store.now c.args.v c.requires.0 c.args.b c.args.i c.requires.1 c.requires.2 (omega arith)
 
 pub block_at_spec : {M : Type 1} → statement M
 block_at_spec = tie.close (tie.spec look-up-requires returns returns-2)

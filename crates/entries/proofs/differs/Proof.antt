@@ -15,15 +15,13 @@ look-up-requires c κs = search rules
 
 unlike-requires : tie.Need-unlike-requires
 unlike-requires c κs =
-    let k = c in
-    let v = k.requires.0 in
-    (v.opened.accepted.clear, v.accepted, k.requires.1, (holding_found k.args.store.now k.args.v v.opened k.args.r k.args.s k.requires.2 c.look_up-f.ensures).used)
+    let v = c.requires.0 in
+    (v.opened.accepted.clear, v.accepted, c.requires.1, (holding_found c.args.store.now c.args.v v.opened c.args.r c.args.s c.requires.2 c.look_up-f.ensures).used)
 
 returns : tie.Need-returns
 returns c =
-    let k = c in
-    let H = holding_found k.args.store.now k.args.v k.requires.0.opened k.args.r k.args.s k.requires.2 c.look_up-f.ensures in
-    c.unlike.ensures ∙ ap (λ (o : Option Bytes). not (is_bytes (bytes_of k.args.copy.now k.args.i) o)) H.holds
+    let H = holding_found c.args.store.now c.args.v c.requires.0.opened c.args.r c.args.s c.requires.2 c.look_up-f.ensures in
+    c.unlike.ensures ∙ ap (λ (o : Option Bytes). not (is_bytes (bytes_of c.args.copy.now c.args.i) o)) H.holds
 
 pub differs_spec : {M : Type 1} → statement M
 differs_spec = tie.close (tie.spec look-up-requires unlike-requires returns)

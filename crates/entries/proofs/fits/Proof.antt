@@ -25,10 +25,9 @@ fits-at-requires c κs = search rules
 
 returns : tie.Need-returns-then-not-fits_at invariant-loop decreases-loop
 returns c =
-    let k = c in
-    let es = entries_of k.args.copy.now in
-    let n = entries-count k.args.copy.now k.requires.accepted in
-    sym (sym c.loop-i.invariant.1 ∙ left_fails (store_history k.args.store.now) es c.loop-i.i (omega (arith, n)) (sym c.fits_at.ensures ∙ c.if-not-fits_at.true))
+    let es = entries_of c.args.copy.now in
+    let n = entries-count c.args.copy.now c.requires.accepted in
+    sym (sym c.loop-i.invariant.1 ∙ left_fails (store_history c.args.store.now) es c.loop-i.i (omega (arith, n)) (sym c.fits_at.ensures ∙ c.if-not-fits_at.true))
 
 add-i : tie.Need-overflow_add-i invariant-loop decreases-loop
 add-i c = search rules
@@ -38,17 +37,15 @@ loop-less c = search rules
 
 loop-again : tie.Need-loop-i-preserved invariant-loop decreases-loop
 loop-again c =
-    let k = c in
-    let es = entries_of k.args.copy.now in
-    let n = entries-count k.args.copy.now k.requires.accepted in
-    (omega arith, sym (left_passes (store_history k.args.store.now) es c.loop-i.i (omega (arith, n)) (sym c.fits_at.ensures ∙ c.if-not-fits_at.false)) ∙ c.loop-i.invariant.1)
+    let es = entries_of c.args.copy.now in
+    let n = entries-count c.args.copy.now c.requires.accepted in
+    (omega arith, sym (left_passes (store_history c.args.store.now) es c.loop-i.i (omega (arith, n)) (sym c.fits_at.ensures ∙ c.if-not-fits_at.false)) ∙ c.loop-i.invariant.1)
 
 returns-2 : tie.Need-returns invariant-loop decreases-loop
 returns-2 c =
-    let k = c in
-    let es = entries_of k.args.copy.now in
-    let n = entries-count k.args.copy.now k.requires.accepted in
-    sym (sym c.loop-i.invariant.1 ∙ left-none (store_history k.args.store.now) es c.loop-i.i (omega (arith, n)))
+    let es = entries_of c.args.copy.now in
+    let n = entries-count c.args.copy.now c.requires.accepted in
+    sym (sym c.loop-i.invariant.1 ∙ left-none (store_history c.args.store.now) es c.loop-i.i (omega (arith, n)))
 
 pub fits_spec : {M : Type 1} → statement M
 fits_spec =

@@ -9,7 +9,7 @@ look-up-requires : tie.Need-look_up-f-requires
 look-up-requires c κs = search rules
 
 returns : tie.Need-returns
-returns c = let k = c in newest-found k.args.store.now k.args.v k.requires.0 k.args.i c.look_up-f.ensures
+returns c = newest-found c.args.store.now c.args.v c.requires.0 c.args.i c.look_up-f.ensures
 
 pub in_newest_spec : {M : Type 1} → statement M
 in_newest_spec = tie.close (tie.spec look-up-requires returns)

@@ -22,8 +22,7 @@ cast-differs c = search rules
 
 differs-requires : tie.Need-differs-requires
 differs-requires c κs =
-    let k = c in
-    (k.requires.0.viewed, k.requires.1, normal_base k.args.store.now k.args.copy.now k.args.v k.requires.0 c.entry_at-e.ensures c.in-Normal.is, k.requires.1)
+    (c.requires.0.viewed, c.requires.1, normal_base c.args.store.now c.args.copy.now c.args.v c.requires.0 c.entry_at-e.ensures c.in-Normal.is, c.requires.1)
 
 enum-told-2 : tie.Need-enum_told-in-Added
 enum-told-2 c = search rules

@@ -9,7 +9,7 @@ look-up-requires : tie.Need-look_up-f-requires
 look-up-requires c κs = search rules
 
 returns : tie.Need-returns
-returns c = let k = c in named-found k.args.store.now k.args.v k.requires.0 k.args.i k.args.b c.look_up-f.ensures
+returns c = named-found c.args.store.now c.args.v c.requires.0 c.args.i c.args.b c.look_up-f.ensures
 
 pub named_since_spec : {M : Type 1} → statement M
 named_since_spec = tie.close (tie.spec look-up-requires returns)

@@ -17,8 +17,7 @@ status-of-requires c κs = search rules
 
 returns : tie.Need-returns
 returns c =
-    let k = c in
-    let e = ap (λ (f : Found). f.revision) c.look_up-newest.ensures ∙ ap (λ (r : ℕ). namer (store_history k.args.store.now) r k.args.i) k.requires.0.viewed.opened.last in
+    let e = ap (λ (f : Found). f.revision) c.look_up-newest.ensures ∙ ap (λ (r : ℕ). namer (store_history c.args.store.now) r c.args.i) c.requires.0.viewed.opened.last in
     λ j. record { status = c.status_of-status.ensures j; revision = e j }
 
 pub status_at_spec : {M : Type 1} → statement M

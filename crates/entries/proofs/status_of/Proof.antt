@@ -22,17 +22,15 @@ enum_told c = search rules
 
 returns : tie.Need-returns-then-f-ne0
 returns c =
-    let k = c in
-    let v = k.requires.0.viewed.opened in
-    status-empty (store_history k.args.store.now) true c.entry_at-e.ensures c.in-Empty.is (sym (ap not (ne_eqb k.args.f.block 0 c.if-f-ne0.true)) ∙ newest-found k.args.store.now k.args.v v k.args.i k.requires.1)
+    let v = c.requires.0.viewed.opened in
+    status-empty (store_history c.args.store.now) true c.entry_at-e.ensures c.in-Empty.is (sym (ap not (ne_eqb c.args.f.block 0 c.if-f-ne0.true)) ∙ newest-found c.args.store.now c.args.v v c.args.i c.requires.1)
 
 enum-known-state : tie.Need-enum_known-state
 enum-known-state c = search rules
 
 block-at-requires : tie.Need-block_at-p-requires
 block-at-requires c κs =
-    let k = c in
-    (k.requires.0.viewed.opened, k.requires.1, normal_base k.args.store.now k.args.copy.now k.args.v k.requires.0 c.entry_at-e.ensures c.in-Normal.is, k.requires.2)
+    (c.requires.0.viewed.opened, c.requires.1, normal_base c.args.store.now c.args.copy.now c.args.v c.requires.0 c.entry_at-e.ensures c.in-Normal.is, c.requires.2)
 
 unlike-requires : tie.Need-unlike-modified-requires
 unlike-requires c κs = search rules
@@ -51,15 +49,13 @@ enum-told-4 c = search rules
 
 returns-2 : tie.Need-returns-else-f-ne0
 returns-2 c =
-    let k = c in
-    let v = k.requires.0.viewed.opened in
-    status-empty (store_history k.args.store.now) false c.entry_at-e.ensures c.in-Empty.is (sym (ap not (eq-eqb k.args.f.block 0 c.if-f-ne0.false)) ∙ newest-found k.args.store.now k.args.v v k.args.i k.requires.1)
+    let v = c.requires.0.viewed.opened in
+    status-empty (store_history c.args.store.now) false c.entry_at-e.ensures c.in-Empty.is (sym (ap not (eq-eqb c.args.f.block 0 c.if-f-ne0.false)) ∙ newest-found c.args.store.now c.args.v v c.args.i c.requires.1)
 
 returns-3 : tie.Need-returns-in-Normal
 returns-3 c =
-    let k = c in
-    let m = c.unlike-modified.ensures ∙ ap (λ (o : Option Bytes). not (is_bytes (bytes_of k.args.copy.now k.args.i) o)) c.block_at-p.ensures.holds in
-    status-normal (store_history k.args.store.now) c.entry_at-e.ensures c.in-Normal.is m (named-found k.args.store.now k.args.v k.requires.0.viewed.opened k.args.i _ k.requires.1) c.normal_status.ensures
+    let m = c.unlike-modified.ensures ∙ ap (λ (o : Option Bytes). not (is_bytes (bytes_of c.args.copy.now c.args.i) o)) c.block_at-p.ensures.holds in
+    status-normal (store_history c.args.store.now) c.entry_at-e.ensures c.in-Normal.is m (named-found c.args.store.now c.args.v c.requires.0.viewed.opened c.args.i _ c.requires.1) c.normal_status.ensures
 
 returns-4 : tie.Need-returns-in-Added
 returns-4 c = let a = c.args in sym (ap (status_of (store_history a.store.now) a.i) (as_read c.entry_at-e.ensures c.in-Added.is))

@@ -9,10 +9,10 @@ use Rattle.entries.proofs.unlike.Statement.{statement}
 use Rattle.entries.proofs.unlike.Tie as tie
 
 returns : tie.Need-returns-then-p-eq0
-returns c = let k = c in unlike_none k.args.store.now k.args.copy.now k.args.i k.args.p c.if-p-eq0.true
+returns c = unlike_none c.args.store.now c.args.copy.now c.args.i c.args.p c.if-p-eq0.true
 
 span-at-requires : tie.Need-span_at-q-requires
-span-at-requires c κs = let k = c in omega (arith, k.requires.3, taken-room k.args.store.now k.requires.0)
+span-at-requires c κs = omega (arith, c.requires.3, taken-room c.args.store.now c.requires.0)
 
 add-b : tie.Need-overflow_add-b
 add-b c = search rules
@@ -55,12 +55,11 @@ same-part-requires c κs = search rules
 
 returns-2 : tie.Need-returns
 returns-2 c =
-    let k = c in
     let q = c.span_at-q.result in
     let e = c.entry_at-e.result in
-    unlike_held k.args.store.now k.args.copy.now k.args.i k.args.p
-    (512 * (k.args.i + 1) + 16 + e.len - (512 * (k.args.i + 1) + 16)) (q.start + q.len - q.start)
-    k.requires.0 k.requires.3 c.if-p-eq0.false c.span_at-q.ensures c.entry_at-e.ensures (omega arith) (omega arith) c.same_part.ensures
+    unlike_held c.args.store.now c.args.copy.now c.args.i c.args.p
+    (512 * (c.args.i + 1) + 16 + e.len - (512 * (c.args.i + 1) + 16)) (q.start + q.len - q.start)
+    c.requires.0 c.requires.3 c.if-p-eq0.false c.span_at-q.ensures c.entry_at-e.ensures (omega arith) (omega arith) c.same_part.ensures
 
 pub unlike_spec : {M : Type 1} → statement M
 unlike_spec =

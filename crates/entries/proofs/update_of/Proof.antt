@@ -28,51 +28,44 @@ cast-look-up c = search rules
 
 look-up-requires-2 : tie.Need-look_up-from-requires
 look-up-requires-2 c κs =
-    let k = c in
-    let o = k.requires.0.viewed.opened in
-    (o.accepted, omega (arith, o.last, normal_base k.args.store.now k.args.copy.now k.args.v k.requires.0 c.entry_at-e.ensures c.in-Normal.is), k.requires.1)
+    let o = c.requires.0.viewed.opened in
+    (o.accepted, omega (arith, o.last, normal_base c.args.store.now c.args.copy.now c.args.v c.requires.0 c.entry_at-e.ensures c.in-Normal.is), c.requires.1)
 
 unlike-requires : tie.Need-unlike-requires
 unlike-requires c κs =
-    let k = c in
-    let w = k.requires.0.viewed in
-    (w.opened.accepted.clear, w.accepted, k.requires.1, found-used k.args.store.now k.args.v w.opened (_) k.args.i (normal_base k.args.store.now k.args.copy.now k.args.v k.requires.0 c.entry_at-e.ensures c.in-Normal.is) c.look_up-from.ensures)
+    let w = c.requires.0.viewed in
+    (w.opened.accepted.clear, w.accepted, c.requires.1, found-used c.args.store.now c.args.v w.opened (_) c.args.i (normal_base c.args.store.now c.args.copy.now c.args.v c.requires.0 c.entry_at-e.ensures c.in-Normal.is) c.look_up-from.ensures)
 
 taken-requires-2 : tie.Need-taken-requires-then-not-unlike
 taken-requires-2 c κs = search rules
 
 returns : tie.Need-returns-then-not-unlike
 returns c =
-    let k = c in
-    update_unmodified k.args.store.now k.args.copy.now k.args.v k.requires.0.viewed.opened k.args.r k.args.i k.requires.2 c.look_up-to.ensures c.entry_at-e.ensures
-    c.look_up-from.ensures c.in-Normal.is (normal_base k.args.store.now k.args.copy.now k.args.v k.requires.0 c.entry_at-e.ensures c.in-Normal.is) c.unlike.ensures (c.if-not-unlike.true) c.taken-then-not-unlike.ensures
+    update_unmodified c.args.store.now c.args.copy.now c.args.v c.requires.0.viewed.opened c.args.r c.args.i c.requires.2 c.look_up-to.ensures c.entry_at-e.ensures
+    c.look_up-from.ensures c.in-Normal.is (normal_base c.args.store.now c.args.copy.now c.args.v c.requires.0 c.entry_at-e.ensures c.in-Normal.is) c.unlike.ensures (c.if-not-unlike.true) c.taken-then-not-unlike.ensures
 
 returns-2 : tie.Need-returns-then-to-from
 returns-2 c =
-    let k = c in
-    update_modified k.args.store.now k.args.copy.now k.args.v k.requires.0.viewed.opened k.args.r k.args.i k.requires.2 c.look_up-to.ensures c.entry_at-e.ensures
-    c.look_up-from.ensures c.in-Normal.is (normal_base k.args.store.now k.args.copy.now k.args.v k.requires.0 c.entry_at-e.ensures c.in-Normal.is) c.unlike.ensures (c.if-not-unlike.false) c.if-to-from.true
+    update_modified c.args.store.now c.args.copy.now c.args.v c.requires.0.viewed.opened c.args.r c.args.i c.requires.2 c.look_up-to.ensures c.entry_at-e.ensures
+    c.look_up-from.ensures c.in-Normal.is (normal_base c.args.store.now c.args.copy.now c.args.v c.requires.0 c.entry_at-e.ensures c.in-Normal.is) c.unlike.ensures (c.if-not-unlike.false) c.if-to-from.true
 
 agreed-requires : tie.Need-agreed-requires
 agreed-requires c κs =
-    let k = c in
-    let w = k.requires.0.viewed in
-    (w.opened.accepted.clear, w.accepted, k.requires.1, found-used k.args.store.now k.args.v w.opened k.args.r k.args.i k.requires.2 c.look_up-to.ensures)
+    let w = c.requires.0.viewed in
+    (w.opened.accepted.clear, w.accepted, c.requires.1, found-used c.args.store.now c.args.v w.opened c.args.r c.args.i c.requires.2 c.look_up-to.ensures)
 
 enum-told-2 : tie.Need-enum_told-in-Added
 enum-told-2 c = search rules
 
 returns-3 : tie.Need-returns-then-p-eq0
 returns-3 c =
-    let k = c in
-    stay_added k.args.store.now k.args.copy.now k.args.v k.requires.0.viewed.opened k.args.r k.args.i k.requires.2 c.look_up-to.ensures c.entry_at-e.ensures
+    stay_added c.args.store.now c.args.copy.now c.args.v c.requires.0.viewed.opened c.args.r c.args.i c.requires.2 c.look_up-to.ensures c.entry_at-e.ensures
     c.if-p-eq0.true c.in-Added.is
 
 agreed-requires-2 : tie.Need-agreed-requires-in-Added
 agreed-requires-2 c κs =
-    let k = c in
-    let w = k.requires.0.viewed in
-    (w.opened.accepted.clear, w.accepted, k.requires.1, found-used k.args.store.now k.args.v w.opened k.args.r k.args.i k.requires.2 c.look_up-to.ensures)
+    let w = c.requires.0.viewed in
+    (w.opened.accepted.clear, w.accepted, c.requires.1, found-used c.args.store.now c.args.v w.opened c.args.r c.args.i c.requires.2 c.look_up-to.ensures)
 
 enum-known-state-2 : tie.Need-enum_known-state-in-Deleted-1
 enum-known-state-2 c = search rules
@@ -82,14 +75,12 @@ cast-look-up-2 c = search rules
 
 look-up-requires-3 : tie.Need-look_up-from-requires-in-Deleted
 look-up-requires-3 c κs =
-    let k = c in
-    let o = k.requires.0.viewed.opened in
-    (o.accepted, omega (arith, o.last, deleted_base k.args.store.now k.args.copy.now k.args.v k.requires.0 c.entry_at-e.ensures c.in-Deleted.is), k.requires.1)
+    let o = c.requires.0.viewed.opened in
+    (o.accepted, omega (arith, o.last, deleted_base c.args.store.now c.args.copy.now c.args.v c.requires.0 c.entry_at-e.ensures c.in-Deleted.is), c.requires.1)
 
 returns-4 : tie.Need-returns-then-to-from-2
 returns-4 c =
-    let k = c in
-    update_deleted k.args.store.now k.args.copy.now k.args.v k.requires.0.viewed.opened k.args.r k.args.i k.requires.2 c.look_up-to.ensures c.entry_at-e.ensures
+    update_deleted c.args.store.now c.args.copy.now c.args.v c.requires.0.viewed.opened c.args.r c.args.i c.requires.2 c.look_up-to.ensures c.entry_at-e.ensures
     c.look_up-from-in-Deleted.ensures c.in-Deleted.is c.if-to-from-2.true
 
 enum-told-3 : tie.Need-enum_told-in-Copied
@@ -97,44 +88,37 @@ enum-told-3 c = search rules
 
 returns-5 : tie.Need-returns-then-p-eq0-2
 returns-5 c =
-    let k = c in
-    stay_copied k.args.store.now k.args.copy.now k.args.v k.requires.0.viewed.opened k.args.r k.args.i k.requires.2 c.look_up-to.ensures c.entry_at-e.ensures
+    stay_copied c.args.store.now c.args.copy.now c.args.v c.requires.0.viewed.opened c.args.r c.args.i c.requires.2 c.look_up-to.ensures c.entry_at-e.ensures
     c.if-p-eq0-2.true c.in-Copied.is
 
 agreed-requires-3 : tie.Need-agreed-requires-in-Copied
 agreed-requires-3 c κs =
-    let k = c in
-    let w = k.requires.0.viewed in
-    (w.opened.accepted.clear, w.accepted, k.requires.1, found-used k.args.store.now k.args.v w.opened k.args.r k.args.i k.requires.2 c.look_up-to.ensures)
+    let w = c.requires.0.viewed in
+    (w.opened.accepted.clear, w.accepted, c.requires.1, found-used c.args.store.now c.args.v w.opened c.args.r c.args.i c.requires.2 c.look_up-to.ensures)
 
 returns-6 : tie.Need-returns-in-Empty
 returns-6 c =
-    let k = c in
-    update_empty k.args.store.now k.args.copy.now k.args.v k.requires.0.viewed.opened k.args.r k.args.i k.requires.2 c.look_up-to.ensures c.entry_at-e.ensures
+    update_empty c.args.store.now c.args.copy.now c.args.v c.requires.0.viewed.opened c.args.r c.args.i c.requires.2 c.look_up-to.ensures c.entry_at-e.ensures
     c.in-Empty.is c.taken.ensures
 
 returns-7 : tie.Need-returns-else-to-from
 returns-7 c =
-    let k = c in
-    agreed-modified k.args.store.now k.args.copy.now k.args.v k.requires.0.viewed.opened k.args.r k.args.i k.requires.2 c.look_up-to.ensures c.entry_at-e.ensures
-    c.look_up-from.ensures c.in-Normal.is (normal_base k.args.store.now k.args.copy.now k.args.v k.requires.0 c.entry_at-e.ensures c.in-Normal.is) c.unlike.ensures (c.if-not-unlike.false) c.if-to-from.false c.agreed.ensures
+    agreed-modified c.args.store.now c.args.copy.now c.args.v c.requires.0.viewed.opened c.args.r c.args.i c.requires.2 c.look_up-to.ensures c.entry_at-e.ensures
+    c.look_up-from.ensures c.in-Normal.is (normal_base c.args.store.now c.args.copy.now c.args.v c.requires.0 c.entry_at-e.ensures c.in-Normal.is) c.unlike.ensures (c.if-not-unlike.false) c.if-to-from.false c.agreed.ensures
 
 returns-8 : tie.Need-returns-else-p-eq0
 returns-8 c =
-    let k = c in
-    agreed-added k.args.store.now k.args.copy.now k.args.v k.requires.0.viewed.opened k.args.r k.args.i k.requires.2 c.look_up-to.ensures c.entry_at-e.ensures
+    agreed-added c.args.store.now c.args.copy.now c.args.v c.requires.0.viewed.opened c.args.r c.args.i c.requires.2 c.look_up-to.ensures c.entry_at-e.ensures
     c.if-p-eq0.false c.agreed-in-Added.ensures c.in-Added.is
 
 returns-9 : tie.Need-returns-else-to-from-2
 returns-9 c =
-    let k = c in
-    conflict-deleted k.args.store.now k.args.copy.now k.args.v k.requires.0.viewed.opened k.args.r k.args.i k.requires.2 c.look_up-to.ensures c.entry_at-e.ensures
+    conflict-deleted c.args.store.now c.args.copy.now c.args.v c.requires.0.viewed.opened c.args.r c.args.i c.requires.2 c.look_up-to.ensures c.entry_at-e.ensures
     c.look_up-from-in-Deleted.ensures c.in-Deleted.is c.if-to-from-2.false
 
 returns-10 : tie.Need-returns-else-p-eq0-2
 returns-10 c =
-    let k = c in
-    agreed-copied k.args.store.now k.args.copy.now k.args.v k.requires.0.viewed.opened k.args.r k.args.i k.requires.2 c.look_up-to.ensures c.entry_at-e.ensures
+    agreed-copied c.args.store.now c.args.copy.now c.args.v c.requires.0.viewed.opened c.args.r c.args.i c.requires.2 c.look_up-to.ensures c.entry_at-e.ensures
     c.if-p-eq0-2.false c.agreed-in-Copied.ensures c.in-Copied.is
 
 pub update_of_spec : {M : Type 1} → statement M

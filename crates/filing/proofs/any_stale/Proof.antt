@@ -35,9 +35,8 @@ is-stale-requires c κs = (c.requires, (low c).0)
 returns : tie.Need-returns-then-is_stale invariant-loop decreases-loop
 returns c =
     let l = low c.before.before in
-    let k = c in
-    let a = k.args in
-    stale_here a.store.now a.copy.now k.requires.viewed.accepted l.1 l.0 c.is_stale.ensures c.if-is_stale.true ∙ c.loop-m.invariant.1
+    let a = c.args in
+    stale_here a.store.now a.copy.now c.requires.viewed.accepted l.1 l.0 c.is_stale.ensures c.if-is_stale.true ∙ c.loop-m.invariant.1
 
 sub-m : tie.Need-overflow_sub-m invariant-loop decreases-loop
 sub-m c = omega arith
@@ -48,11 +47,10 @@ loop-less c = let l = low c.before.before in rw (and_cleared l.1) (cleared_lt l.
 loop-again : tie.Need-loop-m-preserved invariant-loop decreases-loop
 loop-again c =
     let l = low c.before.before in
-    let k = c in
-    let a = k.args in
+    let a = c.args in
     rw (and_cleared l.1) (
       omega (arith, cleared_lt l.1, c.loop-m.invariant.0),
-      stale-next a.store.now a.copy.now k.requires.viewed.accepted l.1 l.0 c.is_stale.ensures c.if-is_stale.false ∙ c.loop-m.invariant.1,
+      stale-next a.store.now a.copy.now c.requires.viewed.accepted l.1 l.0 c.is_stale.ensures c.if-is_stale.false ∙ c.loop-m.invariant.1,
     )
 
 returns-2 : tie.Need-returns invariant-loop decreases-loop

@@ -111,9 +111,8 @@ same-length-8 c = search rules
 
 returns-5 : tie.Need-returns-in-Stopped
 returns-5 c =
-    let s = c in
-    let a = s.args in
-    filed-stopped a.store.now a.copy.now a.v s.requires.0 a.stamp a.mask a.n s.requires.1 (omega (arith, s.ranges.stamp))
+    let a = c.args in
+    filed-stopped a.store.now a.copy.now a.v c.requires.0 a.stamp a.mask a.n c.requires.1 (omega (arith, c.ranges.stamp))
     (commit-stopped a.store.now a.copy.now a.stamp a.mask a.n c.if-mask-eq0.false c.any_stale.ensures c.if-any_stale.false c.commit_chosen-o.ensures c.in-Stopped.is)
 
 same-length-9 : tie.Need-shape_of-store-in-Done

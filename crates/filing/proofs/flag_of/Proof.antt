@@ -20,9 +20,8 @@ cast-differs c = search rules
 
 differs-requires : tie.Need-differs-requires
 differs-requires c κs =
-    let k = c in
-    let a = k.args in
-    (k.requires.0.viewed, k.requires.1, normal_base a.store.now a.copy.now a.v k.requires.0 c.entry_at-e.ensures c.in-Normal.is, k.requires.1)
+    let a = c.args in
+    (c.requires.0.viewed, c.requires.1, normal_base a.store.now a.copy.now a.v c.requires.0 c.entry_at-e.ensures c.in-Normal.is, c.requires.1)
 
 enum-told-2 : tie.Need-enum_told-in-Added
 enum-told-2 c = search rules
@@ -41,11 +40,10 @@ cast-differs-3 c = search rules
 
 differs-requires-2 : tie.Need-differs-requires-in-Copied
 differs-requires-2 c κs =
-    let k = c in
-    let a = k.args in
+    let a = c.args in
     let r = c.entry_at-e.ensures in
     let q = c.in-Copied.is in
-    (k.requires.0.viewed, k.requires.1, source_near a.store.now a.copy.now r q a.v k.requires.0, source_sheet_lem a.store.now a.copy.now r q a.v k.requires.0)
+    (c.requires.0.viewed, c.requires.1, source_near a.store.now a.copy.now r q a.v c.requires.0, source_sheet_lem a.store.now a.copy.now r q a.v c.requires.0)
 
 returns : tie.Need-returns-in-Empty
 returns c = let a = c.args in altered_as a.store.now a.copy.now c.entry_at-e.ensures c.in-Empty.is

@@ -32,18 +32,16 @@ cast-i c = search rules
 
 look-up-requires : tie.Need-look_up-f-requires
 look-up-requires c κs =
-    let k = c in
-    let a = k.args in
+    let a = c.args in
     let r = c.entry_at-e.ensures in
     let q = c.in-Copied.is in
-    let o = k.requires.0.viewed.opened in
-    (o.accepted, omega (arith, o.last, source_near a.store.now a.copy.now r q a.v k.requires.0), source_sheet_lem a.store.now a.copy.now r q a.v k.requires.0)
+    let o = c.requires.0.viewed.opened in
+    (o.accepted, omega (arith, o.last, source_near a.store.now a.copy.now r q a.v c.requires.0), source_sheet_lem a.store.now a.copy.now r q a.v c.requires.0)
 
 cast-result : tie.Need-overflow_cast-result
 cast-result c =
-    let k = c in
-    let a = k.args in
-    omega (arith, source-small a.store.now a.copy.now c.entry_at-e.ensures c.in-Copied.is a.v k.requires.0 c.look_up-f.ensures)
+    let a = c.args in
+    omega (arith, source-small a.store.now a.copy.now c.entry_at-e.ensures c.in-Copied.is a.v c.requires.0 c.look_up-f.ensures)
 
 returns : tie.Need-returns-in-Empty
 returns c = let a = c.args in source_as a.store.now a.copy.now c.entry_at-e.ensures c.in-Empty.is

@@ -15,19 +15,19 @@ same_length : tie.Need-shape_of-copy-then-stays
 same_length c = search rules
 
 returns : tie.Need-returns-then-stays
-returns c = let k = c in settle_stays k.requires.0 k.requires.1 k.args.flag c.entry_at-e.ensures c.stays.ensures c.if-stays.true
+returns c = settle_stays c.requires.0 c.requires.1 c.args.flag c.entry_at-e.ensures c.stays.ensures c.if-stays.true
 
 settled-state-requires : tie.Need-settled_state-state-requires
 settled-state-requires c κs = search rules
 
 set-entry-requires : tie.Need-set_entry-requires
-set-entry-requires c κs = let k = c in settle_put k.requires.0 k.requires.1 k.args.flag c.entry_at-e.ensures c.stays.ensures c.if-stays.false c.settled_state-state.ensures
+set-entry-requires c κs = settle_put c.requires.0 c.requires.1 c.args.flag c.entry_at-e.ensures c.stays.ensures c.if-stays.false c.settled_state-state.ensures
 
 same-length-2 : tie.Need-shape_of-copy
 same-length-2 c = search rules
 
 returns-2 : tie.Need-returns
-returns-2 c = let k = c in settle_leaves k.requires.0 k.requires.1 k.args.flag c.entry_at-e.ensures c.stays.ensures c.if-stays.false c.settled_state-state.ensures c.set_entry.ensures
+returns-2 c = settle_leaves c.requires.0 c.requires.1 c.args.flag c.entry_at-e.ensures c.stays.ensures c.if-stays.false c.settled_state-state.ensures c.set_entry.ensures
 
 pub settle_one_spec : {M : Type 1} → statement M
 settle_one_spec =

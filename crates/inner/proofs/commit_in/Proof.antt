@@ -12,10 +12,10 @@ same_length : tie.Need-shape_of-store-then-has
 same_length c = search rules
 
 returns : tie.Need-returns-then-has
-returns c = let k = c in tailed k.args.store.now k.args.copy.now k.args.v k.requires k.args.stamp k.args.mask k.args.n c.has.ensures c.if-has.true
+returns c = tailed c.args.store.now c.args.copy.now c.args.v c.requires c.args.stamp c.args.mask c.args.n c.has.ensures c.if-has.true
 
 commit-requires : tie.Need-commit-requires
-commit-requires c κs = let k = c in (k.requires, untailed k.args.store.now k.args.copy.now k.args.v k.requires c.has.ensures c.if-has.false)
+commit-requires c κs = (c.requires, untailed c.args.store.now c.args.copy.now c.args.v c.requires c.has.ensures c.if-has.false)
 
 same-length-2 : tie.Need-shape_of-store
 same-length-2 c = search rules
@@ -24,7 +24,7 @@ same-length-3 : tie.Need-shape_of-copy
 same-length-3 c = search rules
 
 returns-2 : tie.Need-returns
-returns-2 c = let k = c in filed k.args.store.now k.args.copy.now k.args.v k.requires k.args.stamp k.args.mask k.args.n c.has.ensures c.if-has.false c.commit.ensures
+returns-2 c = filed c.args.store.now c.args.copy.now c.args.v c.requires c.args.stamp c.args.mask c.args.n c.has.ensures c.if-has.false c.commit.ensures
 
 pub commit_in_spec : {M : Type 1} → statement M
 commit_in_spec =

@@ -7,19 +7,18 @@ use Rattle.inner.proofs.panel_in.Statement.{statement}
 use Rattle.inner.proofs.panel_in.Tie as tie
 
 returns : tie.Need-returns-then-h-revision
-returns c = let s = c in record { is = panel_late s.args.store.now s.args.h s.requires s.args.revision s.args.sheet c.if-h-revision.true; inside = tt }
+returns c = record { is = panel_late c.args.store.now c.args.h c.requires c.args.revision c.args.sheet c.if-h-revision.true; inside = tt }
 
 greatest-requires : tie.Need-greatest-released-requires
-greatest-requires c κs = let s = c in open_laid s.args.store.now s.args.h s.requires
+greatest-requires c κs = open_laid c.args.store.now c.args.h c.requires
 
 place-in-requires : tie.Need-place_in-requires
 place-in-requires c κs = search rules
 
 returns-2 : tie.Need-returns
 returns-2 c =
-    let s = c in
     record {
-      is = c.place_in.ensures.is ∙ panel_at s.args.store.now s.args.h s.requires s.args.revision s.args.sheet c.if-h-revision.false c.greatest-released.ensures;
+      is = c.place_in.ensures.is ∙ panel_at c.args.store.now c.args.h c.requires c.args.revision c.args.sheet c.if-h-revision.false c.greatest-released.ensures;
       inside = c.place_in.ensures.inside;
     }
 

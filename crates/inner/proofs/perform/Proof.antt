@@ -120,7 +120,7 @@ enum_told : tie.Need-enum_told-1
 enum_told c = search rules
 
 clear-in-requires : tie.Need-clear_in-requires
-clear-in-requires c κs = let k = c in fitting_open k.args.store.now k.args.copy.now k.args.v k.requires
+clear-in-requires c κs = fitting_open c.args.store.now c.args.copy.now c.args.v c.requires
 
 stay-requires-12 : tie.Need-stay-requires-in-Clear
 stay-requires-12 c κs = search rules
@@ -141,7 +141,7 @@ cast-clear-in : tie.Need-overflow_cast-n-in-ClearCut
 cast-clear-in c = search rules
 
 clear-in-requires-2 : tie.Need-clear_in-requires-in-ClearCut
-clear-in-requires-2 c κs = let k = c in fitting_open k.args.store.now k.args.copy.now k.args.v k.requires
+clear-in-requires-2 c κs = fitting_open c.args.store.now c.args.copy.now c.args.v c.requires
 
 stay-requires-13 : tie.Need-stay-requires-in-ClearCut
 stay-requires-13 c κs = search rules
@@ -150,13 +150,13 @@ enum-known-call-15 : tie.Need-enum_known-call-in-Release-1
 enum-known-call-15 c = search rules
 
 release-in-requires : tie.Need-release_in-filed-requires
-release-in-requires c κs = let s = c in fitting_open s.args.store.now s.args.copy.now s.args.v s.requires
+release-in-requires c κs = fitting_open c.args.store.now c.args.copy.now c.args.v c.requires
 
 enum-known-call-16 : tie.Need-enum_known-call-in-Panel-1
 enum-known-call-16 c = search rules
 
 panel-in-requires : tie.Need-panel_in-requires
-panel-in-requires c κs = let s = c in fitting_open s.args.store.now s.args.copy.now s.args.v s.requires
+panel-in-requires c κs = fitting_open c.args.store.now c.args.copy.now c.args.v c.requires
 
 stay-requires-14 : tie.Need-stay-requires-in-Panel
 stay-requires-14 c κs = search rules
@@ -265,7 +265,7 @@ returns-9 : tie.Need-returns-in-Read
 returns-9 c =
     let a = c.args in
     let F = c.requires in
-    meant a.store.now a.copy.now a.v F a.bytes.now c.in-Read.is (reads a.store.now a.copy.now a.v F c.in-Read.revision c.in-Read.sheet c.before.place_in.result c.before.place_in.ensures c.stay-in-Read.ensures)
+    meant a.store.now a.copy.now a.v F a.bytes.now c.in-Read.is (reads a.store.now a.copy.now a.v F c.in-Read.revision c.in-Read.sheet c.place_in.result c.place_in.ensures c.stay-in-Read.ensures)
 
 same-length-13 : tie.Need-shape_of-store-in-Show
 same-length-13 c = search rules
@@ -308,7 +308,7 @@ returns-13 c =
     let a = c.args in
     let F = c.requires in
     meant a.store.now a.copy.now a.v F a.bytes.now c.in-Clear.is
-    (clears a.store.now a.copy.now a.v F c.before.before.before.clear_in.result (c.before.before.before.clear_in.ensures ∙ whole-clear a.store.now) c.stay-in-Clear.ensures)
+    (clears a.store.now a.copy.now a.v F c.clear_in.result (c.clear_in.ensures ∙ whole-clear a.store.now) c.stay-in-Clear.ensures)
 
 same-length-19 : tie.Need-shape_of-store-in-CommitCut
 same-length-19 c = search rules
@@ -318,43 +318,39 @@ same-length-20 c = search rules
 
 returns-14 : tie.Need-returns-in-CommitCut
 returns-14 c =
-    let s = c in
-    let a = s.args in
-    meant a.store.now a.copy.now a.v s.requires a.bytes.now c.in-CommitCut.is
-    (files a.store.now a.copy.now a.v s.requires (CommitsCut c.in-CommitCut.stamp c.in-CommitCut.mask c.in-CommitCut.n) (omega (arith, c.in-CommitCut.known_told-in-CommitCut-1-own.given)) c.commit_in-filed-in-CommitCut.result c.commit_in-filed-in-CommitCut.ensures)
+    let a = c.args in
+    meant a.store.now a.copy.now a.v c.requires a.bytes.now c.in-CommitCut.is
+    (files a.store.now a.copy.now a.v c.requires (CommitsCut c.in-CommitCut.stamp c.in-CommitCut.mask c.in-CommitCut.n) (omega (arith, c.in-CommitCut.known_told-in-CommitCut-1-own.given)) c.commit_in-filed-in-CommitCut.result c.commit_in-filed-in-CommitCut.ensures)
 
 same-length-21 : tie.Need-shape_of-store-in-ClearCut
 same-length-21 c = search rules
 
 returns-15 : tie.Need-returns-in-ClearCut
 returns-15 c =
-    let s = c in
-    let a = s.args in
+    let a = c.args in
     let r = c.clear_in-in-ClearCut in
-    meant a.store.now a.copy.now a.v s.requires a.bytes.now c.in-ClearCut.is
-    (clears_cut a.store.now a.copy.now a.v s.requires c.in-ClearCut.n r.result r.ensures c.stay-in-ClearCut.ensures)
+    meant a.store.now a.copy.now a.v c.requires a.bytes.now c.in-ClearCut.is
+    (clears_cut a.store.now a.copy.now a.v c.requires c.in-ClearCut.n r.result r.ensures c.stay-in-ClearCut.ensures)
 
 same-length-22 : tie.Need-shape_of-store-in-Release
 same-length-22 c = search rules
 
 returns-16 : tie.Need-returns-in-Release
 returns-16 c =
-    let s = c in
-    let a = s.args in
+    let a = c.args in
     let r = c.release_in-filed in
-    meant a.store.now a.copy.now a.v s.requires a.bytes.now c.in-Release.is
-    (releases a.store.now a.copy.now a.v s.requires c.in-Release.revision c.in-Release.seat c.in-Release.stamp (omega (arith, c.in-Release.known_told-in-Release-1-own.given)) r.result r.ensures)
+    meant a.store.now a.copy.now a.v c.requires a.bytes.now c.in-Release.is
+    (releases a.store.now a.copy.now a.v c.requires c.in-Release.revision c.in-Release.seat c.in-Release.stamp (omega (arith, c.in-Release.known_told-in-Release-1-own.given)) r.result r.ensures)
 
 same-length-23 : tie.Need-shape_of-store-in-Panel
 same-length-23 c = search rules
 
 returns-17 : tie.Need-returns-in-Panel
 returns-17 c =
-    let s = c in
-    let a = s.args in
+    let a = c.args in
     let r = c.panel_in in
-    meant a.store.now a.copy.now a.v s.requires a.bytes.now c.in-Panel.is
-    (panels a.store.now a.copy.now a.v s.requires c.in-Panel.revision c.in-Panel.sheet r.result r.ensures c.stay-in-Panel.ensures)
+    meant a.store.now a.copy.now a.v c.requires a.bytes.now c.in-Panel.is
+    (panels a.store.now a.copy.now a.v c.requires c.in-Panel.revision c.in-Panel.sheet r.result r.ensures c.stay-in-Panel.ensures)
 
 pub perform_spec : {M : Type 1} → statement M
 perform_spec =

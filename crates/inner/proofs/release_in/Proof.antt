@@ -7,7 +7,7 @@ use Rattle.inner.proofs.release_in.Statement.{statement}
 use Rattle.inner.proofs.release_in.Tie as tie
 
 has-requires : tie.Need-has-requires
-has-requires c κs = let s = c in open_taken s.args.store.now s.args.h s.requires
+has-requires c κs = open_taken c.args.store.now c.args.h c.requires
 
 unmoved-requires : tie.Need-unmoved-requires
 unmoved-requires c κs = search rules
@@ -16,7 +16,7 @@ same_length : tie.Need-shape_of-store-then-has
 same_length c = search rules
 
 returns : tie.Need-returns-then-has
-returns c = let s = c in has_tail s.args.store.now s.args.h s.requires s.args.revision s.args.seat s.args.stamp c.has.ensures c.if-has.true c.unmoved.ensures
+returns c = has_tail c.args.store.now c.args.h c.requires c.args.revision c.args.seat c.args.stamp c.has.ensures c.if-has.true c.unmoved.ensures
 
 unreleasable-requires : tie.Need-unreleasable-requires
 unreleasable-requires c κs = search rules
@@ -29,11 +29,10 @@ same-length-2 c = search rules
 
 returns-2 : tie.Need-returns-then-unreleasable
 returns-2 c =
-    let s = c in
-    out_of_range s.args.store.now s.args.h s.requires s.args.revision s.args.seat s.args.stamp c.has.ensures c.if-has.false c.unreleasable.ensures c.if-unreleasable.true c.unmoved-then-unreleasable.ensures
+    out_of_range c.args.store.now c.args.h c.requires c.args.revision c.args.seat c.args.stamp c.has.ensures c.if-has.false c.unreleasable.ensures c.if-unreleasable.true c.unmoved-then-unreleasable.ensures
 
 is-released-requires : tie.Need-is_released-requires
-is-released-requires c κs = let s = c in open_laid s.args.store.now s.args.h s.requires
+is-released-requires c κs = open_laid c.args.store.now c.args.h c.requires
 
 unmoved-requires-3 : tie.Need-unmoved-requires-then-is_released
 unmoved-requires-3 c κs = search rules
@@ -43,8 +42,7 @@ same-length-3 c = search rules
 
 returns-3 : tie.Need-returns-then-is_released
 returns-3 c =
-    let s = c in
-    released-before s.args.store.now s.args.h s.requires s.args.revision s.args.seat s.args.stamp c.has.ensures c.if-has.false c.unreleasable.ensures c.if-unreleasable.false c.is_released.ensures c.if-is_released.true c.unmoved-then-is_released.ensures
+    released-before c.args.store.now c.args.h c.requires c.args.revision c.args.seat c.args.stamp c.has.ensures c.if-has.false c.unreleasable.ensures c.if-unreleasable.false c.is_released.ensures c.if-is_released.true c.unmoved-then-is_released.ensures
 
 unmoved-requires-4 : tie.Need-unmoved-requires-then-store-h
 unmoved-requires-4 c κs = search rules
@@ -54,18 +52,16 @@ same-length-4 c = search rules
 
 returns-4 : tie.Need-returns-then-store-h
 returns-4 c =
-    let s = c in
-    no_block s.args.store.now s.args.h s.requires s.args.revision s.args.seat s.args.stamp c.has.ensures c.if-has.false c.unreleasable.ensures c.if-unreleasable.false c.is_released.ensures c.if-is_released.false c.if-store-h.true c.unmoved-then-store-h.ensures
+    no_block c.args.store.now c.args.h c.requires c.args.revision c.args.seat c.args.stamp c.has.ensures c.if-has.false c.unreleasable.ensures c.if-unreleasable.false c.is_released.ensures c.if-is_released.false c.if-store-h.true c.unmoved-then-store-h.ensures
 
 cast-put-release : tie.Need-overflow_cast-seat
-cast-put-release c = let s = c in let small = seat-small s.args.store.now s.args.h s.requires s.args.revision s.args.seat s.args.stamp c.has.ensures c.if-has.false c.unreleasable.ensures c.if-unreleasable.false c.is_released.ensures c.if-is_released.false c.if-store-h.false in search rules
+cast-put-release c = let small = seat-small c.args.store.now c.args.h c.requires c.args.revision c.args.seat c.args.stamp c.has.ensures c.if-has.false c.unreleasable.ensures c.if-unreleasable.false c.is_released.ensures c.if-is_released.false c.if-store-h.false in search rules
 
 put-release-requires : tie.Need-put_release-requires
-put-release-requires c κs =
-    let s = c in (
-      room s.args.store.now s.args.h s.requires s.args.revision s.args.seat s.args.stamp c.has.ensures c.if-has.false c.unreleasable.ensures c.if-unreleasable.false c.is_released.ensures c.if-is_released.false c.if-store-h.false,
-      revision-small s.args.store.now s.args.h s.requires s.args.revision s.args.seat s.args.stamp c.has.ensures c.if-has.false c.unreleasable.ensures c.if-unreleasable.false c.is_released.ensures c.if-is_released.false c.if-store-h.false,
-    )
+put-release-requires c κs = (
+  room c.args.store.now c.args.h c.requires c.args.revision c.args.seat c.args.stamp c.has.ensures c.if-has.false c.unreleasable.ensures c.if-unreleasable.false c.is_released.ensures c.if-is_released.false c.if-store-h.false,
+  revision-small c.args.store.now c.args.h c.requires c.args.revision c.args.seat c.args.stamp c.has.ensures c.if-has.false c.unreleasable.ensures c.if-unreleasable.false c.is_released.ensures c.if-is_released.false c.if-store-h.false,
+)
 
 add-used : tie.Need-overflow_add-used
 add-used c = search rules
@@ -75,8 +71,7 @@ same-length-5 c = search rules
 
 returns-5 : tie.Need-returns
 returns-5 c =
-    let s = c in
-    made s.args.store.now s.args.h s.requires s.args.revision s.args.seat s.args.stamp c.has.ensures c.if-has.false c.unreleasable.ensures c.if-unreleasable.false c.is_released.ensures c.if-is_released.false c.if-store-h.false (search rules) c.put_release.ensures
+    made c.args.store.now c.args.h c.requires c.args.revision c.args.seat c.args.stamp c.has.ensures c.if-has.false c.unreleasable.ensures c.if-unreleasable.false c.is_released.ensures c.if-is_released.false c.if-store-h.false (search rules) c.put_release.ensures
 
 pub release_in_spec : {M : Type 1} → statement M
 release_in_spec =

@@ -22,22 +22,21 @@ decreases-loop store n r most₀ p₀ most p = n - p
 
 loop-holds : tie.Need-loop-p-init invariant-loop decreases-loop
 loop-holds c =
-    let k = c.before in
-    let s = k.args.store.now in
-    let n = k.args.n in
-    let r = k.args.r in (
+    let s = c.args.store.now in
+    let n = c.args.n in
+    let r = c.args.r in (
       omega arith,
-      greatest_start (greatest r (revisions_left s n 0)) ∙ ap (greatest r) (revisions_all s n ∙ laid_revisions s n k.requires),
+      greatest_start (greatest r (revisions_left s n 0)) ∙ ap (greatest r) (revisions_all s n ∙ laid_revisions s n c.requires),
     )
 
 mul-a : tie.Need-overflow_mul-a invariant-loop decreases-loop
-mul-a c = omega (arith, c.before.before.before.requires.few)
+mul-a c = omega (arith, c.requires.few)
 
 add-e : tie.Need-overflow_add-e invariant-loop decreases-loop
-add-e c = omega (arith, c.before.before.before.requires.few)
+add-e c = omega (arith, c.requires.few)
 
 add-p : tie.Need-overflow_add-p invariant-loop decreases-loop
-add-p c = omega (arith, c.before.before.before.requires.few)
+add-p c = omega (arith, c.requires.few)
 
 sub-released-at : tie.Need-slice_bounds-released_at-count invariant-loop decreases-loop
 sub-released-at c = search rules
@@ -46,24 +45,22 @@ part-released-at-start : tie.Need-slice_bounds-released_at-start invariant-loop 
 part-released-at-start c = search rules
 
 part-released-at-end : tie.Need-slice_bounds-released_at-end invariant-loop decreases-loop
-part-released-at-end c = omega (arith, c.before.before.before.requires.room)
+part-released-at-end c = omega (arith, c.requires.room)
 
 released-at-requires : tie.Need-released_at-x-requires invariant-loop decreases-loop
 released-at-requires c κs =
-    let k = c.before.before.before.before in
-    let l = c.before.before.loop-p in
-    lent_size k.args.store.now k.args.n l.p k.requires.room (omega arith)
+    let l = c.loop-p in
+    lent_size c.args.store.now c.args.n l.p c.requires.room (omega arith)
 
 loop-less : tie.Need-loop-p-smaller-then-r-x invariant-loop decreases-loop
 loop-less c = search rules
 
 loop-again : tie.Need-loop-p-preserved-then-r-x invariant-loop decreases-loop
 loop-again c =
-    let k = c.before.before.before.before.before.before in
-    let l = c.before.before.before.before.loop-p in
-    let x = c.before.released_at-x in (
+    let l = c.loop-p in
+    let x = c.released_at-x in (
       omega arith,
-      greatest_above k.args.store.now k.args.n l.p k.args.r l.most _ l.invariant.1 (omega arith) x.result x.ensures (omega arith),
+      greatest_above c.args.store.now c.args.n l.p c.args.r l.most _ l.invariant.1 (omega arith) x.result x.ensures (omega arith),
     )
 
 loop-less-2 : tie.Need-loop-p-smaller-then-x-most invariant-loop decreases-loop
@@ -71,11 +68,10 @@ loop-less-2 c = search rules
 
 loop-again-2 : tie.Need-loop-p-preserved-then-x-most invariant-loop decreases-loop
 loop-again-2 c =
-    let k = c.before.before.before.before.before.before.before in
-    let l = c.before.before.before.before.before.loop-p in
-    let x = c.before.before.released_at-x in (
+    let l = c.loop-p in
+    let x = c.released_at-x in (
       omega arith,
-      greatest_less k.args.store.now k.args.n l.p k.args.r l.most _ l.invariant.1 (omega arith) x.result x.ensures (omega arith) (omega arith),
+      greatest_less c.args.store.now c.args.n l.p c.args.r l.most _ l.invariant.1 (omega arith) x.result x.ensures (omega arith) (omega arith),
     )
 
 loop-less-3 : tie.Need-loop-p-smaller invariant-loop decreases-loop
@@ -83,18 +79,16 @@ loop-less-3 c = search rules
 
 loop-again-3 : tie.Need-loop-p-preserved invariant-loop decreases-loop
 loop-again-3 c =
-    let k = c.before.before.before.before.before.before.before in
-    let l = c.before.before.before.before.before.loop-p in
-    let x = c.before.before.released_at-x in (
+    let l = c.loop-p in
+    let x = c.released_at-x in (
       omega arith,
-      greatest_more k.args.store.now k.args.n l.p k.args.r l.most _ l.invariant.1 (omega arith) x.result x.ensures (omega arith) (omega arith),
+      greatest_more c.args.store.now c.args.n l.p c.args.r l.most _ l.invariant.1 (omega arith) x.result x.ensures (omega arith) (omega arith),
     )
 
 returns : tie.Need-returns invariant-loop decreases-loop
 returns c =
-    let k = c.before.before.before in
-    let l = c.before.loop-p in
-    greatest-done k.args.store.now k.args.n l.p k.args.r l.most _ l.invariant.1 (omega arith)
+    let l = c.loop-p in
+    greatest-done c.args.store.now c.args.n l.p c.args.r l.most _ l.invariant.1 (omega arith)
 
 pub greatest_spec : {M : Type 1} → statement M
 greatest_spec =

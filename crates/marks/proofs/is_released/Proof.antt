@@ -21,28 +21,26 @@ decreases-loop store n r k₀ k = k
 
 returns : tie.Need-returns-then-r-eq0 invariant-loop decreases-loop
 returns c =
-    let k = c.before.before in
-    let s = k.args.store.now in
-    let n = k.args.n in
-    let z : k.args.r ≡ 0 = c.if-r-eq0.true in
-    sym (ap (λ (x : ℕ). among x (releases (marks (log_all (blocks_of n s))))) z ∙ ap (among 0) (sym (laid_revisions s n k.requires)) ∙ among-zero (blocks_of n s))
+    let s = c.args.store.now in
+    let n = c.args.n in
+    let z : c.args.r ≡ 0 = c.if-r-eq0.true in
+    sym (ap (λ (x : ℕ). among x (releases (marks (log_all (blocks_of n s))))) z ∙ ap (among 0) (sym (laid_revisions s n c.requires)) ∙ among-zero (blocks_of n s))
 
 loop-holds : tie.Need-loop-left-init invariant-loop decreases-loop
 loop-holds c =
-    let k = c.before.before in
-    let s = k.args.store.now in
-    let n = k.args.n in
+    let s = c.args.store.now in
+    let n = c.args.n in
     let e : n - n ≡ 0 = omega arith in
-    (omega arith, ap (λ (p : ℕ). among k.args.r (revisions_left s n p)) e ∙ ap (among k.args.r) (revisions_all s n ∙ laid_revisions s n k.requires))
+    (omega arith, ap (λ (p : ℕ). among c.args.r (revisions_left s n p)) e ∙ ap (among c.args.r) (revisions_all s n ∙ laid_revisions s n c.requires))
 
 sub-a : tie.Need-overflow_sub-a invariant-loop decreases-loop
 sub-a c = search rules
 
 mul-a : tie.Need-overflow_mul-a invariant-loop decreases-loop
-mul-a c = omega (arith, c.before.before.before.before.requires.few)
+mul-a c = omega (arith, c.requires.few)
 
 add-e : tie.Need-overflow_add-e invariant-loop decreases-loop
-add-e c = omega (arith, c.before.before.before.before.requires.few)
+add-e c = omega (arith, c.requires.few)
 
 sub-released-at : tie.Need-slice_bounds-released_at-count invariant-loop decreases-loop
 sub-released-at c = search rules
@@ -51,20 +49,18 @@ part-released-at-start : tie.Need-slice_bounds-released_at-start invariant-loop 
 part-released-at-start c = search rules
 
 part-released-at-end : tie.Need-slice_bounds-released_at-end invariant-loop decreases-loop
-part-released-at-end c = omega (arith, c.before.before.before.before.requires.room)
+part-released-at-end c = omega (arith, c.requires.room)
 
 released-at-requires : tie.Need-released_at-requires invariant-loop decreases-loop
 released-at-requires c κs =
-    let k = c.before.before.before.before.before in
-    let l = c.before.before.loop-left in
-    lent_size k.args.store.now k.args.n (k.args.n - l.left) k.requires.room (omega arith)
+    let l = c.loop-left in
+    lent_size c.args.store.now c.args.n (c.args.n - l.left) c.requires.room (omega arith)
 
 returns-2 : tie.Need-returns-then-released_at-r invariant-loop decreases-loop
 returns-2 c =
-    let k = c.before.before.before.before.before.before.before in
-    let l = c.before.before.before.before.loop-left in
-    let x = c.before.released_at in
-    among-found k.args.store.now k.args.n (k.args.n - l.left) k.args.r _ l.invariant.1 (omega arith) (omega arith) x.result x.ensures c.if-released_at-r.true
+    let l = c.loop-left in
+    let x = c.released_at in
+    among-found c.args.store.now c.args.n (c.args.n - l.left) c.args.r _ l.invariant.1 (omega arith) (omega arith) x.result x.ensures c.if-released_at-r.true
 
 sub-left : tie.Need-overflow_sub-left invariant-loop decreases-loop
 sub-left c = search rules
@@ -74,22 +70,20 @@ loop-less c = search rules
 
 loop-again : tie.Need-loop-left-preserved invariant-loop decreases-loop
 loop-again c =
-    let k = c.before.before.before.before.before.before.before in
-    let s = k.args.store.now in
-    let n = k.args.n in
-    let l = c.before.before.before.before.loop-left in
-    let x = c.before.released_at in
+    let s = c.args.store.now in
+    let n = c.args.n in
+    let l = c.loop-left in
+    let x = c.released_at in
     let e : n - (l.left - 1) ≡ n - l.left + 1 = omega arith in (
       omega arith,
-      ap (λ (p : ℕ). among k.args.r (revisions_left s n p)) e
-          ∙ among-not s n (n - l.left) k.args.r _ l.invariant.1 (omega arith) (omega arith) x.result x.ensures c.if-released_at-r.false,
+      ap (λ (p : ℕ). among c.args.r (revisions_left s n p)) e
+          ∙ among-not s n (n - l.left) c.args.r _ l.invariant.1 (omega arith) (omega arith) x.result x.ensures c.if-released_at-r.false,
     )
 
 returns-3 : tie.Need-returns invariant-loop decreases-loop
 returns-3 c =
-    let k = c.before.before.before.before in
-    let l = c.before.loop-left in
-    among-done k.args.store.now k.args.n (k.args.n - l.left) k.args.r _ l.invariant.1 (omega arith)
+    let l = c.loop-left in
+    among-done c.args.store.now c.args.n (c.args.n - l.left) c.args.r _ l.invariant.1 (omega arith)
 
 pub is_released_spec : {M : Type 1} → statement M
 is_released_spec =

@@ -23,23 +23,22 @@ decreases-loop store n seen₀ p₀ seen p = n - p
 
 loop-holds : tie.Need-loop-p-init invariant-loop decreases-loop
 loop-holds c =
-    let k = c.before in
-    let s = k.args.store.now in
-    let n = k.args.n in (
+    let s = c.args.store.now in
+    let n = c.args.n in (
       omega arith,
       refl,
-      subst Low (sym (left-all s n)) (laid-low s n k.requires),
+      subst Low (sym (left-all s n)) (laid-low s n c.requires),
       apart-all 4_096 (revisions_left s n 0) ∙ ap once (revisions_all s n),
     )
 
 mul-a : tie.Need-overflow_mul-a invariant-loop decreases-loop
-mul-a c = omega (arith, c.before.before.before.requires.few)
+mul-a c = omega (arith, c.requires.few)
 
 add-e : tie.Need-overflow_add-e invariant-loop decreases-loop
-add-e c = omega (arith, c.before.before.before.requires.few)
+add-e c = omega (arith, c.requires.few)
 
 add-p : tie.Need-overflow_add-p invariant-loop decreases-loop
-add-p c = omega (arith, c.before.before.before.requires.few)
+add-p c = omega (arith, c.requires.few)
 
 sub-released-at : tie.Need-slice_bounds-released_at-count invariant-loop decreases-loop
 sub-released-at c = search rules
@@ -48,13 +47,12 @@ part-released-at-start : tie.Need-slice_bounds-released_at-start invariant-loop 
 part-released-at-start c = search rules
 
 part-released-at-end : tie.Need-slice_bounds-released_at-end invariant-loop decreases-loop
-part-released-at-end c = omega (arith, c.before.before.before.requires.room)
+part-released-at-end c = omega (arith, c.requires.room)
 
 released-at-requires : tie.Need-released_at-x-requires invariant-loop decreases-loop
 released-at-requires c κs =
-    let k = c.before.before.before.before in
-    let l = c.before.before.loop-p in
-    lent_size k.args.store.now k.args.n l.p k.requires.room (omega arith)
+    let l = c.loop-p in
+    lent_size c.args.store.now c.args.n l.p c.requires.room (omega arith)
 
 cast-x : tie.Need-overflow_cast-x invariant-loop decreases-loop
 cast-x c = search rules
@@ -64,11 +62,10 @@ loop-less c = search rules
 
 loop-again : tie.Need-loop-p-preserved-then-x-eq0 invariant-loop decreases-loop
 loop-again c =
-    let k = c.before.before.before.before.before.before in
-    let s = k.args.store.now in
-    let n = k.args.n in
-    let l = c.before.before.before.before.loop-p in
-    let x = c.before.released_at-x in (
+    let s = c.args.store.now in
+    let n = c.args.n in
+    let l = c.loop-p in
+    let x = c.released_at-x in (
       omega arith,
       l.invariant.1,
       low-rest s n l.p (omega arith) l.invariant.2,
@@ -77,46 +74,41 @@ loop-again c =
 
 array-read-if2 : tie.Need-bounds-seen-x invariant-loop decreases-loop
 array-read-if2 c =
-    let k = c.before.before.before.before.before.before in
-    let l = c.before.before.before.before.loop-p in
-    low_first k.args.store.now k.args.n l.p (omega arith) l.invariant.2 c.before.released_at-x.ensures
+    let l = c.loop-p in
+    low_first c.args.store.now c.args.n l.p (omega arith) l.invariant.2 c.released_at-x.ensures
 
 returns : tie.Need-returns-then-seen-x-ne0 invariant-loop decreases-loop
 returns c =
-    let k = c.before.before.before.before.before.before.before in
-    let l = c.before.before.before.before.before.loop-p in
-    let x = c.before.before.released_at-x in
-    apart_fails k.args.store.now k.args.n l.p l.seen _ l.invariant.3 (omega arith) x.result x.ensures c.before.if-x-eq0.false c.if-seen-x-ne0.true
-    ∙ ap once (laid_revisions k.args.store.now k.args.n k.requires)
+    let l = c.loop-p in
+    let x = c.released_at-x in
+    apart_fails c.args.store.now c.args.n l.p l.seen _ l.invariant.3 (omega arith) x.result x.ensures c.if-x-eq0.false c.if-seen-x-ne0.true
+    ∙ ap once (laid_revisions c.args.store.now c.args.n c.requires)
 
 array-write-seen : tie.Need-bounds-seen-x-in-loop-p invariant-loop decreases-loop
 array-write-seen c =
-    let k = c.before.before.before.before.before.before.before in
-    let l = c.before.before.before.before.before.loop-p in
-    low_first k.args.store.now k.args.n l.p (omega arith) l.invariant.2 c.before.before.released_at-x.ensures
+    let l = c.loop-p in
+    low_first c.args.store.now c.args.n l.p (omega arith) l.invariant.2 c.released_at-x.ensures
 
 loop-less-2 : tie.Need-loop-p-smaller invariant-loop decreases-loop
 loop-less-2 c = search rules
 
 loop-again-2 : tie.Need-loop-p-preserved invariant-loop decreases-loop
 loop-again-2 c =
-    let k = c.before.before.before.before.before.before.before in
-    let s = k.args.store.now in
-    let n = k.args.n in
-    let l = c.before.before.before.before.before.loop-p in
-    let x = c.before.before.released_at-x in
+    let s = c.args.store.now in
+    let n = c.args.n in
+    let l = c.loop-p in
+    let x = c.released_at-x in
     let lo = low_first s n l.p (omega arith) l.invariant.2 x.ensures in (
       omega arith,
       length-set l.seen x.result 1 ∙ l.invariant.1,
       low-rest s n l.p (omega arith) l.invariant.2,
-      apart-step s n l.p l.seen _ l.invariant.3 (omega arith) x.result x.ensures c.before.if-x-eq0.false (omega (arith, lo, l.invariant.1)) c.if-seen-x-ne0.false,
+      apart-step s n l.p l.seen _ l.invariant.3 (omega arith) x.result x.ensures c.if-x-eq0.false (omega (arith, lo, l.invariant.1)) c.if-seen-x-ne0.false,
     )
 
 returns-2 : tie.Need-returns invariant-loop decreases-loop
 returns-2 c =
-    let k = c.before.before.before in
-    let l = c.before.loop-p in
-    apart-done k.args.store.now k.args.n l.p l.seen _ l.invariant.3 (omega arith) ∙ ap once (laid_revisions k.args.store.now k.args.n k.requires)
+    let l = c.loop-p in
+    apart-done c.args.store.now c.args.n l.p l.seen _ l.invariant.3 (omega arith) ∙ ap once (laid_revisions c.args.store.now c.args.n c.requires)
 
 pub together_spec : {M : Type 1} → statement M
 together_spec =

@@ -22,8 +22,7 @@ same_length c = search rules
 
 returns : tie.Need-returns
 returns c =
-    let k = c in
-    bytes_record k.requires.0 k.args.bytes.now k.args.revision c.put32.ensures c.put32-2.ensures c.put_bytes.ensures
+    bytes_record c.requires.0 c.args.bytes.now c.args.revision c.put32.ensures c.put32-2.ensures c.put_bytes.ensures
 
 pub put_part_spec : {M : Type 1} → statement M
 put_part_spec =

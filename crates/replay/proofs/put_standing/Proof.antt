@@ -16,8 +16,7 @@ same_length c = search rules
 
 returns : tie.Need-returns
 returns c =
-    let k = c in
-    status_record k.requires k.args.standing.status k.args.standing.revision c.put32.ensures c.put32-2.ensures
+    status_record c.requires c.args.standing.status c.args.standing.revision c.put32.ensures c.put32-2.ensures
 
 pub put_standing_spec : {M : Type 1} → statement M
 put_standing_spec = tie.close (tie.spec put32-requires put32-requires-2 same_length returns)

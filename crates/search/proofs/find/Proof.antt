@@ -34,10 +34,10 @@ sub-p : tie.Need-overflow_sub-p invariant-changes decreases-changes invariant-se
 sub-p c = search rules
 
 mul-a : tie.Need-overflow_mul-a invariant-changes decreases-changes invariant-search decreases-search
-mul-a c = let k = c in let w = (passed k.args.store.now k.args.n k.args.used k.requires.0).whole in search rules
+mul-a c = let w = (passed c.args.store.now c.args.n c.args.used c.requires.0).whole in search rules
 
 add-e : tie.Need-overflow_add-e invariant-changes decreases-changes invariant-search decreases-search
-add-e c = let k = c in let w = (passed k.args.store.now k.args.n k.args.used k.requires.0).whole in search rules
+add-e c = let w = (passed c.args.store.now c.args.n c.args.used c.requires.0).whole in search rules
 
 sub-b : tie.Need-slice_bounds-b-count invariant-changes decreases-changes invariant-search decreases-search
 sub-b c = search rules
@@ -46,7 +46,7 @@ part-b-start : tie.Need-slice_bounds-b-start invariant-changes decreases-changes
 part-b-start c = search rules
 
 part-b-end : tie.Need-slice_bounds-b-end invariant-changes decreases-changes invariant-search decreases-search
-part-b-end c = let k = c in let w = (passed k.args.store.now k.args.n k.args.used k.requires.0).whole in search rules
+part-b-end c = let w = (passed c.args.store.now c.args.n c.args.used c.requires.0).whole in search rules
 
 kind-requires : tie.Need-kind-requires invariant-changes decreases-changes invariant-search decreases-search
 kind-requires c κs =

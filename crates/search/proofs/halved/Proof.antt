@@ -17,16 +17,16 @@ abbrev decreases-loop : tie.decreases-loop-lo
 decreases-loop store n used r lo₀ hi₀ lo hi = hi - lo
 
 loop-holds : tie.Need-loop-lo-init invariant-loop decreases-loop
-loop-holds c = let k = c in let a = k.args in let w = halved_room a.store.now a.n a.used k.requires.0 a.r in (omega arith, w.0, omega arith, behind_end a.store.now a.n a.used k.requires.0 a.r k.requires.1)
+loop-holds c = let a = c.args in let w = halved_room a.store.now a.n a.used c.requires.0 a.r in (omega arith, w.0, omega arith, behind_end a.store.now a.n a.used c.requires.0 a.r c.requires.1)
 
 add-mid : tie.Need-overflow_add-mid invariant-loop decreases-loop
-add-mid c = let k = c in let a = k.args in let w = halved_room a.store.now a.n a.used k.requires.0 a.r in omega arith
+add-mid c = let a = c.args in let w = halved_room a.store.now a.n a.used c.requires.0 a.r in omega arith
 
 mul-a : tie.Need-overflow_mul-a invariant-loop decreases-loop
-mul-a c = let k = c in let a = k.args in let w = halved_room a.store.now a.n a.used k.requires.0 a.r in omega arith
+mul-a c = let a = c.args in let w = halved_room a.store.now a.n a.used c.requires.0 a.r in omega arith
 
 add-e : tie.Need-overflow_add-e invariant-loop decreases-loop
-add-e c = let k = c in let a = k.args in let w = halved_room a.store.now a.n a.used k.requires.0 a.r in omega arith
+add-e c = let a = c.args in let w = halved_room a.store.now a.n a.used c.requires.0 a.r in omega arith
 
 sub-two-at : tie.Need-slice_bounds-two_at-count invariant-loop decreases-loop
 sub-two-at c = search rules
@@ -35,7 +35,7 @@ part-two-at-start : tie.Need-slice_bounds-two_at-start invariant-loop decreases-
 part-two-at-start c = search rules
 
 part-two-at-end : tie.Need-slice_bounds-two_at-end invariant-loop decreases-loop
-part-two-at-end c = let k = c in let a = k.args in let w = halved_room a.store.now a.n a.used k.requires.0 a.r in search rules
+part-two-at-end c = let a = c.args in let w = halved_room a.store.now a.n a.used c.requires.0 a.r in search rules
 
 two-at-requires : tie.Need-two_at-requires invariant-loop decreases-loop
 two-at-requires c κs = search rules
@@ -57,8 +57,8 @@ loop-less-2 c = omega arith
 
 loop-again-2 : tie.Need-loop-lo-preserved invariant-loop decreases-loop
 loop-again-2 c =
-    let k = c in let a = k.args in let l = c.loop-lo in
-    (omega arith, omega arith, omega arith, behind_later a.store.now a.n a.used k.requires.0 a.r ((l.lo + l.hi) / 2) c.two_at.result (omega arith) (omega arith) c.two_at.ensures.0 (omega arith))
+    let a = c.args in let l = c.loop-lo in
+    (omega arith, omega arith, omega arith, behind_later a.store.now a.n a.used c.requires.0 a.r ((l.lo + l.hi) / 2) c.two_at.result (omega arith) (omega arith) c.two_at.ensures.0 (omega arith))
 
 returns : tie.Need-returns invariant-loop decreases-loop
 returns c = let l = c.loop-lo in let e : l.lo ≡ l.hi = omega arith in (omega arith, omega arith, omega (arith, ap (era_at (blocks_of c.args.used c.args.store.now)) e))

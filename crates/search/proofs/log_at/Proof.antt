@@ -20,15 +20,13 @@ sub-p c = search rules
 
 mul-a : tie.Need-overflow_mul-a
 mul-a c =
-    let k = c in
-    let a = k.args in
-    omega (arith, before_part a.store.now a.n a.used k.requires.0 a.r c.bound-p.result c.bound-p.ensures k.requires.1 k.requires.2)
+    let a = c.args in
+    omega (arith, before_part a.store.now a.n a.used c.requires.0 a.r c.bound-p.result c.bound-p.ensures c.requires.1 c.requires.2)
 
 add-e : tie.Need-overflow_add-e
 add-e c =
-    let k = c in
-    let a = k.args in
-    omega (arith, before_part a.store.now a.n a.used k.requires.0 a.r c.bound-p.result c.bound-p.ensures k.requires.1 k.requires.2)
+    let a = c.args in
+    omega (arith, before_part a.store.now a.n a.used c.requires.0 a.r c.bound-p.result c.bound-p.ensures c.requires.1 c.requires.2)
 
 sub-b : tie.Need-slice_bounds-b-count
 sub-b c = search rules
@@ -38,9 +36,8 @@ part-b-start c = search rules
 
 part-b-end : tie.Need-slice_bounds-b-end
 part-b-end c =
-    let k = c in
-    let a = k.args in
-    let w = before_part a.store.now a.n a.used k.requires.0 a.r c.bound-p.result c.bound-p.ensures k.requires.1 k.requires.2 in
+    let a = c.args in
+    let w = before_part a.store.now a.n a.used c.requires.0 a.r c.bound-p.result c.bound-p.ensures c.requires.1 c.requires.2 in
     search rules
 
 shared-slice-read-seat : tie.Need-bounds-b-6
@@ -60,25 +57,23 @@ cast-deed-in c = search rules
 
 deed-in-requires : tie.Need-deed_in-action-requires
 deed-in-requires c κs =
-    let k = c in
-    let a = k.args in (
-      before-size a.store.now a.n a.used k.requires.0 a.r c.bound-p.result
-          c.bound-p.ensures k.requires.1 k.requires.2,
+    let a = c.args in (
+      before-size a.store.now a.n a.used c.requires.0 a.r c.bound-p.result
+          c.bound-p.ensures c.requires.1 c.requires.2,
       omega (
         arith,
         c.two_at-changes.ensures.0,
-        before-few a.store.now a.n a.used k.requires.0 a.r c.bound-p.result
-            c.bound-p.ensures k.requires.1 k.requires.2,
+        before-few a.store.now a.n a.used c.requires.0 a.r c.bound-p.result
+            c.bound-p.ensures c.requires.1 c.requires.2,
       ),
     )
 
 returns : tie.Need-returns
 returns c =
-    let k = c in
-    let a = k.args in
+    let a = c.args in
     let l = lent a.store.now (c.bound-p.result - 1) in
-    log_is a.store.now a.n a.used k.requires.0 a.r c.bound-p.result
-    c.bound-p.ensures k.requires.1 k.requires.2 a.i k.requires.3 _
+    log_is a.store.now a.n a.used c.requires.0 a.r c.bound-p.result
+    c.bound-p.ensures c.requires.1 c.requires.2 a.i c.requires.3 _
     refl c.get32-stamp.ensures c.two_at-changes.ensures.0
     (c.deed_in-action.ensures ∙ ap (λ (m : ℕ). deed_in a.i (parse_lines m (drop 16 l))) c.two_at-changes.ensures.0)
 

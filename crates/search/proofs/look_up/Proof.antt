@@ -11,15 +11,13 @@ halved-requires c κs = search rules
 
 find-requires : tie.Need-find-requires
 find-requires c κs =
-    let k = c in
-    (k.requires.0, c.halved-end.ensures.1)
+    (c.requires.0, c.halved-end.ensures.1)
 
 returns : tie.Need-returns
 returns c =
-    let k = c in
-    let a = k.args in
+    let a = c.args in
     let h = c.halved-end in
-    c.find.ensures ∙ found_back a.store.now a.n a.used k.requires.0 a.r h.result a.i h.ensures.0 h.ensures.1 h.ensures.2 k.requires.1 k.requires.2
+    c.find.ensures ∙ found_back a.store.now a.n a.used c.requires.0 a.r h.result a.i h.ensures.0 h.ensures.1 h.ensures.2 c.requires.1 c.requires.2
 
 pub look_up_spec : {M : Type 1} → statement M
 look_up_spec = tie.close (tie.spec halved-requires find-requires returns)

@@ -34,12 +34,11 @@ add-t7 c = search rules
 
 returns : tie.Need-returns
 returns c =
-    let k = c in
-    let s = k.args.store.now in
-    let p = k.args.p in
+    let s = c.args.store.now in
+    let p = c.args.p in
     let d : p * 512 + 16 ≡ 512 * p + 16 = omega arith in
-    let e : c.size-len.result ≡ length (bytes_at (blocks_of (block_count s) s) p) = c.size-len.ensures.0 ∙ sym (ap length (bytes_in_lem (block_count s) p s k.requires)) in
-    record { is = cc (d, e); inside = omega (arith, k.requires, c.size-len.ensures.1) }
+    let e : c.size-len.result ≡ length (bytes_at (blocks_of (block_count s) s) p) = c.size-len.ensures.0 ∙ sym (ap length (bytes_in_lem (block_count s) p s c.requires)) in
+    record { is = cc (d, e); inside = omega (arith, c.requires, c.size-len.ensures.1) }
 
 pub span_at_spec : {M : Type 1} → statement M
 span_at_spec =

@@ -18,8 +18,7 @@ shared-slice-read-if1 c = search rules
 
 returns : tie.Need-returns-then-s-ne0
 returns c =
-    let k = c in
-    sym (commit-shaped k.args.s.now k.requires.0 (λ j. omega (arith, k.shared_slice_known-1.given j)) k.requires.1 ∙ rw (ne_eqb _ 0 c.if-s-ne0.true))
+    sym (commit-shaped c.args.s.now c.requires.0 (λ j. omega (arith, c.shared_slice_known-1.given j)) c.requires.1 ∙ rw (ne_eqb _ 0 c.if-s-ne0.true))
 
 two-at-requires : tie.Need-two_at-m-requires
 two-at-requires c κs = search rules
@@ -29,10 +28,9 @@ cast-m c = search rules
 
 returns-2 : tie.Need-returns-then-m-gt32
 returns-2 c =
-    let k = c in
-    let s = k.args.s.now in
+    let s = c.args.s.now in
     let e = c.two_at-m.ensures.0 in
-    sym (commit-shaped s k.requires.0 (λ j. omega (arith, k.shared_slice_known-1.given j)) k.requires.1
+    sym (commit-shaped s c.requires.0 (λ j. omega (arith, c.shared_slice_known-1.given j)) c.requires.1
     ∙ rw (eq-eqb _ 0 c.if-s-ne0.false, lt-leb (two_at s 2) 32 (omega (arith, e, c.if-m-gt32.true))))
 
 shared-slice-read-if3 : tie.Need-bounds-s-7
@@ -40,10 +38,9 @@ shared-slice-read-if3 c = search rules
 
 returns-3 : tie.Need-returns-then-s-ne0-2
 returns-3 c =
-    let k = c in
-    let s = k.args.s.now in
+    let s = c.args.s.now in
     let e = c.two_at-m.ensures.0 in
-    sym (commit-shaped s k.requires.0 (λ j. omega (arith, k.shared_slice_known-1.given j)) k.requires.1
+    sym (commit-shaped s c.requires.0 (λ j. omega (arith, c.shared_slice_known-1.given j)) c.requires.1
     ∙ rw (
       eq-eqb _ 0 c.if-s-ne0.false,
       le-leb (two_at s 2) 32 (omega (arith, e, c.if-m-gt32.false)),
@@ -56,10 +53,9 @@ zeros-requires c κs = search rules
 
 returns-4 : tie.Need-returns-then-not-zeros
 returns-4 c =
-    let k = c in
-    let s = k.args.s.now in
+    let s = c.args.s.now in
     let e = c.two_at-m.ensures.0 in
-    sym (commit-shaped s k.requires.0 (λ j. omega (arith, k.shared_slice_known-1.given j)) k.requires.1
+    sym (commit-shaped s c.requires.0 (λ j. omega (arith, c.shared_slice_known-1.given j)) c.requires.1
     ∙ rw (
       eq-eqb _ 0 c.if-s-ne0.false,
       le-leb (two_at s 2) 32
@@ -74,12 +70,11 @@ lines-shape-requires c κs = search rules
 
 returns-5 : tie.Need-returns-then-not-lines_shape
 returns-5 c =
-    let k = c in
-    let s = k.args.s.now in
+    let s = c.args.s.now in
     let e = c.two_at-m.ensures.0 in
     let l : (t : Bool) → c.lines_shape.result ≡ t → lines_ok (two_at s 2) (drop 16 s) ≡ t = λ t q. ap (λ (x : ℕ). lines_ok x (drop 16 s)) (sym e)
     ∙ sym c.lines_shape.ensures ∙ q in
-    sym (commit-shaped s k.requires.0 (λ j. omega (arith, k.shared_slice_known-1.given j)) k.requires.1
+    sym (commit-shaped s c.requires.0 (λ j. omega (arith, c.shared_slice_known-1.given j)) c.requires.1
     ∙ rw (
       eq-eqb _ 0 c.if-s-ne0.false,
       le-leb (two_at s 2) 32
@@ -101,8 +96,7 @@ zeros-requires-2 c κs = search rules
 
 returns-6 : tie.Need-returns
 returns-6 c =
-    let k = c in
-    let s = k.args.s.now in
+    let s = c.args.s.now in
     let e = c.two_at-m.ensures.0 in
     let n = c.two_at-m.result in
     let a : 16 + 8 * n ≡ 16 + 8 * two_at s 2 = omega (arith, e) in
@@ -110,7 +104,7 @@ returns-6 c =
     let l : lines_ok (two_at s 2) (drop 16 s) ≡ true = ap (λ (x : ℕ). lines_ok x (drop 16 s)) (sym e) ∙ sym c.lines_shape.ensures
     ∙ c.if-not-lines_shape.false in
     c.zeros-2.ensures ∙ ap₂ (λ (x y : ℕ). zero_from s x y) a d
-    ∙ sym (commit-shaped s k.requires.0 (λ j. omega (arith, k.shared_slice_known-1.given j)) k.requires.1
+    ∙ sym (commit-shaped s c.requires.0 (λ j. omega (arith, c.shared_slice_known-1.given j)) c.requires.1
     ∙ rw (
       eq-eqb _ 0 c.if-s-ne0.false,
       le-leb (two_at s 2) 32

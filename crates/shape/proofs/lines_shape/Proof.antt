@@ -41,9 +41,8 @@ shared-slice-read-if1 c = search rules
 
 returns : tie.Need-returns-then-s-at-lt1 invariant-loop decreases-loop
 returns c =
-    let k = c in
     let l = c.loop-j in
-    sym (sym (lines-all k.args.s.now k.args.m) ∙ sym l.invariant.1 ∙ lines_step k.args.s.now k.args.m l.j (omega arith) ∙ rw (lt-leb 1 _ c.if-s-at-lt1.true))
+    sym (sym (lines-all c.args.s.now c.args.m) ∙ sym l.invariant.1 ∙ lines_step c.args.s.now c.args.m l.j (omega arith) ∙ rw (lt-leb 1 _ c.if-s-at-lt1.true))
 
 add-if2 : tie.Need-overflow_add-at-in-loop-j-2 invariant-loop decreases-loop
 add-if2 c = search rules
@@ -59,9 +58,8 @@ shared-slice-read-if3 c = search rules
 
 returns-3 : tie.Need-returns-then-s-at-ne0 invariant-loop decreases-loop
 returns-3 c =
-    let k = c in
     let l = c.loop-j in
-    sym (sym (lines-all k.args.s.now k.args.m) ∙ sym l.invariant.1 ∙ lines_step k.args.s.now k.args.m l.j (omega arith)
+    sym (sym (lines-all c.args.s.now c.args.m) ∙ sym l.invariant.1 ∙ lines_step c.args.s.now c.args.m l.j (omega arith)
     ∙ rw (le-leb 1 _ c.if-s-at-lt1.false, within _ c.if-s-at-lt1.false (omega arith), ne_eqb _ 0 c.if-s-at-ne0.true))
 
 add-j : tie.Need-overflow_add-j invariant-loop decreases-loop
@@ -72,18 +70,16 @@ loop-less c = search rules
 
 loop-again : tie.Need-loop-j-preserved invariant-loop decreases-loop
 loop-again c =
-    let k = c in
     let l = c.loop-j in (
       omega arith,
-      sym (lines_step k.args.s.now k.args.m l.j (omega arith)
+      sym (lines_step c.args.s.now c.args.m l.j (omega arith)
           ∙ rw (le-leb 1 _ c.if-s-at-lt1.false, within _ c.if-s-at-lt1.false (omega arith), eq-eqb _ 0 c.if-s-at-ne0.false)) ∙ l.invariant.1,
     )
 
 returns-4 : tie.Need-returns invariant-loop decreases-loop
 returns-4 c =
-    let k = c in
     let l = c.loop-j in
-    sym (sym (lines-all k.args.s.now k.args.m) ∙ sym l.invariant.1 ∙ lines_none k.args.s.now k.args.m l.j (omega arith))
+    sym (sym (lines-all c.args.s.now c.args.m) ∙ sym l.invariant.1 ∙ lines_none c.args.s.now c.args.m l.j (omega arith))
 
 pub lines_shape_spec : {M : Type 1} → statement M
 lines_shape_spec =
@@ -99,9 +95,8 @@ lines_shape_spec =
     returns
     add-if2
     shared-slice-read-if2
-    (λ c. let k = c in
-    let l = c.loop-j in
-    sym (sym (lines-all k.args.s.now k.args.m) ∙ sym l.invariant.1 ∙ lines_step k.args.s.now k.args.m l.j (omega arith)
+    (λ c. let l = c.loop-j in
+    sym (sym (lines-all c.args.s.now c.args.m) ∙ sym l.invariant.1 ∙ lines_step c.args.s.now c.args.m l.j (omega arith)
     ∙ rw (le-leb 1 _ c.if-s-at-lt1.false, above _ c.if-s-at-lt1.false (omega arith))))
     add-if3
     shared-slice-read-if3

@@ -10,7 +10,7 @@ shared-slice-read-if1 : tie.Need-bounds-s-0
 shared-slice-read-if1 c = search rules
 
 returns : tie.Need-returns-then-s-ne6
-returns c = let k = c in sym (none-shaped k.args.s.now k.requires.0 k.requires.1 c.if-s-ne6.true)
+returns c = sym (none-shaped c.args.s.now c.requires.0 c.requires.1 c.if-s-ne6.true)
 
 release-shape-requires : tie.Need-release_shape-requires
 release-shape-requires c κs = search rules

@@ -38,8 +38,7 @@ zeros-requires-2 c κs = search rules
 
 returns-3 : tie.Need-returns
 returns-3 c =
-    let k = c in
-    release_then k.args.s.now k.requires.0 (λ j. omega (arith, k.shared_slice_known-1.given j)) k.requires.1 c.zeros-2.result c.zeros-2.ensures
+    release_then c.args.s.now c.requires.0 (λ j. omega (arith, c.shared_slice_known-1.given j)) c.requires.1 c.zeros-2.result c.zeros-2.ensures
     (sym c.zeros.ensures ∙ c.if-not-zeros.false) c.if-s-ne0.false
 
 pub release_shape_spec : {M : Type 1} → statement M

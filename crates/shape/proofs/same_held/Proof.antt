@@ -42,13 +42,12 @@ same-part-requires c κs = search rules
 
 returns : tie.Need-returns
 returns c =
-    let k = c in
     let n = c.size-e in
     let m = c.size-f in
     c.same_part.ensures
     ∙ ap₂ same
-    (held_part k.args.s.now k.requires.0 n.result n.ensures.0 n.ensures.1)
-    (held_part k.args.t.now k.requires.1 m.result m.ensures.0 m.ensures.1)
+    (held_part c.args.s.now c.requires.0 n.result n.ensures.0 n.ensures.1)
+    (held_part c.args.t.now c.requires.1 m.result m.ensures.0 m.ensures.1)
 
 pub same_held_spec : {M : Type 1} → statement M
 same_held_spec =

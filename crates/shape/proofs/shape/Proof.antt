@@ -47,8 +47,8 @@ zeros-requires : tie.Need-zeros-requires
 zeros-requires c κs = search rules
 
 returns-5 : tie.Need-returns
-returns-5 c = let k = c in c.zeros.ensures
-    ∙ sym (blank-shaped k.args.s.now k.requires c.if-s-eq1.false c.if-s-eq2.false c.if-s-eq3.false
+returns-5 c = c.zeros.ensures
+    ∙ sym (blank-shaped c.args.s.now c.requires c.if-s-eq1.false c.if-s-eq2.false c.if-s-eq3.false
     (λ e. omega (arith, c.if-s-gt3.false)))
 
 pub shape_spec : {M : Type 1} → statement M

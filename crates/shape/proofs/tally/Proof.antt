@@ -17,9 +17,8 @@ decreases-loop s base m at counts₀ j₀ counts j = m - j
 
 loop-holds : tie.Need-loop-j-init invariant-loop decreases-loop
 loop-holds c =
-    let k = c in
-    let a = k.args in
-    tally_starts a.s.now a.base a.m a.at (length a.counts.now) a.counts.now refl k.requires.2
+    let a = c.args in
+    tally_starts a.s.now a.base a.m a.at (length a.counts.now) a.counts.now refl c.requires.2
 
 mul-two-at : tie.Need-overflow_mul-j invariant-loop decreases-loop
 mul-two-at c = search rules

@@ -72,7 +72,7 @@ returns-6 c =
           c.if-m-gt32.false,
       sym c.rules.ensures
           ∙ c.if-not-rules.false,
-      sym c.before.none_twice.ensures ∙ c.if-not-none_twice.true,
+      sym c.none_twice.ensures ∙ c.if-not-none_twice.true,
     ))
 
 one-each-requires : tie.Need-one_each-requires
@@ -92,7 +92,7 @@ returns-7 c =
       le-leb _ 32 c.if-m-gt32.false,
       sym
           c.rules.ensures ∙ c.if-not-rules.false,
-      sym c.before.before.none_twice.ensures
+      sym c.none_twice.ensures
           ∙ c.if-not-none_twice.false,
     ))
 

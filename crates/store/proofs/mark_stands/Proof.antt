@@ -18,37 +18,33 @@ cast-r c = search rules
 
 returns : tie.Need-returns-then-r-lt1
 returns c =
-    let k = c in
-    let a = k.args in
+    let a = c.args in
     let e = c.two_at-r.ensures.0 in
-    sym (stands_is a.b.now a.tab.now a.w.last k.requires.1 ∙ rw (lt-leb 1 (two_at a.b.now 4) (omega (arith, e, c.if-r-lt1.true))))
+    sym (stands_is a.b.now a.tab.now a.w.last c.requires.1 ∙ rw (lt-leb 1 (two_at a.b.now 4) (omega (arith, e, c.if-r-lt1.true))))
 
 returns-2 : tie.Need-returns-then-w-r
 returns-2 c =
-    let k = c in
-    let a = k.args in
+    let a = c.args in
     let e = c.two_at-r.ensures.0 in
-    sym (stands_is a.b.now a.tab.now a.w.last k.requires.1 ∙ rw (le-leb 1 (two_at a.b.now 4) (omega (arith, e, c.if-r-lt1.false)), le-ltb (two_at a.b.now 4) (a.w.last + 1) (omega (arith, e, c.if-w-r.true))))
+    sym (stands_is a.b.now a.tab.now a.w.last c.requires.1 ∙ rw (le-leb 1 (two_at a.b.now 4) (omega (arith, e, c.if-r-lt1.false)), le-ltb (two_at a.b.now 4) (a.w.last + 1) (omega (arith, e, c.if-w-r.true))))
 
 shared-slice-read-if3 : tie.Need-bounds-b-6
 shared-slice-read-if3 c = search rules
 
 returns-3 : tie.Need-returns-then-b-lt1
 returns-3 c =
-    let k = c in
-    let a = k.args in
+    let a = c.args in
     let e = c.two_at-r.ensures.0 in
-    sym (stands_is a.b.now a.tab.now a.w.last k.requires.1 ∙ rw (le-leb 1 (two_at a.b.now 4) (omega (arith, e, c.if-r-lt1.false)), lt-ltb (two_at a.b.now 4) (a.w.last + 1) (omega (arith, e, c.if-w-r.false)), lt-leb 1 _ c.if-b-lt1.true))
+    sym (stands_is a.b.now a.tab.now a.w.last c.requires.1 ∙ rw (le-leb 1 (two_at a.b.now 4) (omega (arith, e, c.if-r-lt1.false)), lt-ltb (two_at a.b.now 4) (a.w.last + 1) (omega (arith, e, c.if-w-r.false)), lt-leb 1 _ c.if-b-lt1.true))
 
 shared-slice-read-result : tie.Need-bounds-b-6-2
 shared-slice-read-result c = search rules
 
 returns-4 : tie.Need-returns
 returns-4 c =
-    let k = c in
-    let a = k.args in
+    let a = c.args in
     let e = c.two_at-r.ensures.0 in
-    sym (stands_is a.b.now a.tab.now a.w.last k.requires.1 ∙ rw (le-leb 1 (two_at a.b.now 4) (omega (arith, e, c.if-r-lt1.false)), lt-ltb (two_at a.b.now 4) (a.w.last + 1) (omega (arith, e, c.if-w-r.false)), le-leb 1 _ c.if-b-lt1.false))
+    sym (stands_is a.b.now a.tab.now a.w.last c.requires.1 ∙ rw (le-leb 1 (two_at a.b.now 4) (omega (arith, e, c.if-r-lt1.false)), lt-ltb (two_at a.b.now 4) (a.w.last + 1) (omega (arith, e, c.if-w-r.false)), le-leb 1 _ c.if-b-lt1.false))
 
 pub mark_stands_spec : {M : Type 1} → statement M
 mark_stands_spec =

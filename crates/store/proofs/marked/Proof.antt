@@ -30,7 +30,7 @@ returns-2 : tie.Need-returns-in-Refused
 returns-2 c = sym (ap (λ o. marked_of c.args.store.now (opened_as o)) c.in-Refused.is)
 
 returns-3 : tie.Need-returns-in-Plain
-returns-3 c = let s = c in open_plain s.args.store.now c.in-Plain.is s.requires.0 s.requires.1
+returns-3 c = open_plain c.args.store.now c.in-Plain.is c.requires.0 c.requires.1
 
 returns-4 : tie.Need-returns-else-not-together
 returns-4 c =

@@ -26,7 +26,7 @@ abbrev decreases-loop : tie.decreases-loop-at
 decreases-loop store n tab₀ at₀ k₀ last₀ met₀ tab at k last met = n - (at + k)
 
 loop-holds : tie.Need-loop-at-init invariant-loop decreases-loop
-loop-holds c = let k = c in (omega arith, omega (arith, k.requires.some), refl, start_is k.args.n k.args.store.now k.args.tab.now k.requires.first, λ z p lo hi. absurd (omega arith))
+loop-holds c = (omega arith, omega (arith, c.requires.some), refl, start_is c.args.n c.args.store.now c.args.tab.now c.requires.first, λ z p lo hi. absurd (omega arith))
 
 add-loop : tie.Need-overflow_add-at invariant-loop decreases-loop
 add-loop c = search rules
@@ -51,9 +51,8 @@ part-b-end c = search rules
 
 kind-requires : tie.Need-kind-kind-requires invariant-loop decreases-loop
 kind-requires c κs =
-    let s = c in
     let l = c.loop-at in
-    part_size s.args.store.now s.args.n (l.at + l.k) s.requires.whole (omega arith)
+    part_size c.args.store.now c.args.n (l.at + l.k) c.requires.whole (omega arith)
 
 two-at-requires : tie.Need-two_at-requires invariant-loop decreases-loop
 two-at-requires c κs = search rules
@@ -69,8 +68,7 @@ same-length-2 c = search rules
 
 returns-2 : tie.Need-returns-then-kind-ne4 invariant-loop decreases-loop
 returns-2 c =
-    let s = c in
-    let a = s.args in
+    let a = c.args in
     let look = bytes_at (blocks_of a.n a.store.now) in
     let l = c.loop-at in
     record { is = sym (sym l.invariant.3 ∙ turn-revision look a.n a.store.now l.at l.k l.last l.tab (omega arith) (omega (arith, c.kind-kind.ensures)) (λ e. c.if-kind-ne4.true (c.kind-kind.ensures ∙ e)) (λ e. c.if-two_at-last.true (c.two_at.ensures.0 ∙ e))); markless = tt }
@@ -80,25 +78,22 @@ same-length-3 c = search rules
 
 returns-3 : tie.Need-returns-then-k-ne0 invariant-loop decreases-loop
 returns-3 c =
-    let s = c in
-    let a = s.args in
+    let a = c.args in
     let look = bytes_at (blocks_of a.n a.store.now) in
     let l = c.loop-at in
     record { is = sym (sym l.invariant.3 ∙ turn_inside look a.n a.store.now l.at l.k l.last l.tab (omega arith) (sym c.kind-kind.ensures ∙ c.if-kind-ne4.false) c.if-k-ne0.true); markless = tt }
 
 mark-stands-requires : tie.Need-mark_stands-requires invariant-loop decreases-loop
 mark-stands-requires c κs =
-    let s = c in
     let l = c.loop-at in
-    (part_size s.args.store.now s.args.n (l.at + l.k) s.requires.whole (omega arith), sym c.kind-kind.ensures ∙ c.if-kind-ne4.false)
+    (part_size c.args.store.now c.args.n (l.at + l.k) c.requires.whole (omega arith), sym c.kind-kind.ensures ∙ c.if-kind-ne4.false)
 
 same-length-4 : tie.Need-shape_of-tab-then-not-mark_stands invariant-loop decreases-loop
 same-length-4 c = search rules
 
 returns-4 : tie.Need-returns-then-not-mark_stands invariant-loop decreases-loop
 returns-4 c =
-    let s = c in
-    let a = s.args in
+    let a = c.args in
     let look = bytes_at (blocks_of a.n a.store.now) in
     let l = c.loop-at in
     record { is = sym (sym l.invariant.3 ∙ turn_astray look a.n a.store.now l.at l.k l.last l.tab (omega arith) (sym c.kind-kind.ensures ∙ c.if-kind-ne4.false) c.if-k-ne0.false (sym c.mark_stands.ensures ∙ c.if-not-mark_stands.true)); markless = tt }
@@ -111,8 +106,7 @@ loop-less c = search rules
 
 loop-again : tie.Need-loop-at-preserved-then-two_at-last invariant-loop decreases-loop
 loop-again c =
-    let s = c in
-    let a = s.args in
+    let a = c.args in
     let look = bytes_at (blocks_of a.n a.store.now) in
     let l = c.loop-at in
     (omega arith, omega arith, l.invariant.2, sym (turn-mark look a.n a.store.now l.at l.k l.last l.tab (omega arith) (sym c.kind-kind.ensures ∙ c.if-kind-ne4.false) c.if-k-ne0.false (sym c.mark_stands.ensures ∙ c.if-not-mark_stands.false)) ∙ l.invariant.3, λ z. let w : ◌≡◌ {A = ℕ} 0 1 = cc z in absurd (omega arith))
@@ -125,8 +119,7 @@ loop-less-2 c = search rules
 
 loop-again-2 : tie.Need-loop-at-preserved-then-kind-eq2 invariant-loop decreases-loop
 loop-again-2 c =
-    let s = c in
-    let a = s.args in
+    let a = c.args in
     let look = bytes_at (blocks_of a.n a.store.now) in
     let l = c.loop-at in
     (omega arith, omega arith, l.invariant.2, sym (turn-content look a.n a.store.now l.at l.k l.last l.tab (omega arith) (sym c.kind-kind.ensures ∙ c.if-kind-eq2.true) (sym c.two_at.ensures.0 ∙ c.if-two_at-last.false)) ∙ l.invariant.3, λ z. plain-next a.store.now (l.at + l.k) (l.at + (l.k + 1)) (omega arith) (l.invariant.4 z) (λ e. omega (arith, c.kind-kind.ensures, c.if-kind-eq2.true, e)))
@@ -136,25 +129,22 @@ same-length-5 c = search rules
 
 returns-5 : tie.Need-returns-then-kind-eq4 invariant-loop decreases-loop
 returns-5 c =
-    let s = c in
-    let a = s.args in
+    let a = c.args in
     let look = bytes_at (blocks_of a.n a.store.now) in
     let l = c.loop-at in
     record { is = sym (sym l.invariant.3 ∙ turn_ahead look a.n a.store.now l.at l.k l.last l.tab (omega arith) (sym c.kind-kind.ensures ∙ c.if-kind-eq4.true) (sym c.two_at.ensures.0 ∙ c.if-two_at-last.false)); markless = tt }
 
 laid-at-requires : tie.Need-laid_at-requires invariant-loop decreases-loop
 laid-at-requires c κs =
-    let s = c in
     let l = c.loop-at in
-    (record { whole = s.requires.whole; few = s.requires.few; room = omega (arith, s.requires.room, l.invariant.2); within = omega arith }, part_size s.args.store.now s.args.n (l.at + l.k) s.requires.whole (omega arith))
+    (record { whole = c.requires.whole; few = c.requires.few; room = omega (arith, c.requires.room, l.invariant.2); within = omega arith }, part_size c.args.store.now c.args.n (l.at + l.k) c.requires.whole (omega arith))
 
 same-length-6 : tie.Need-shape_of-tab-then-not-laid_at invariant-loop decreases-loop
 same-length-6 c = search rules
 
 returns-6 : tie.Need-returns-then-not-laid_at invariant-loop decreases-loop
 returns-6 c =
-    let s = c in
-    let a = s.args in
+    let a = c.args in
     let look = bytes_at (blocks_of a.n a.store.now) in
     let l = c.loop-at in
     record { is = sym (sym l.invariant.3 ∙ turn_unlaid look a.n a.store.now l.at l.k l.last l.tab (omega arith) (kind-three (lent a.store.now (l.at + l.k)) (omega (arith, c.kind-kind.ensures)) (λ e. c.if-kind-eq2.false (c.kind-kind.ensures ∙ e)) (λ e. c.if-kind-eq4.false (c.kind-kind.ensures ∙ e))) (sym c.two_at.ensures.0 ∙ c.if-two_at-last.false) (sym c.laid_at.ensures ∙ c.if-not-laid_at.true)); markless = tt }
@@ -170,11 +160,10 @@ add-last c = search rules
 
 grow-requires : tie.Need-grow-requires invariant-loop decreases-loop
 grow-requires c κs =
-    let s = c in
-    let a = s.args in
+    let a = c.args in
     let look = bytes_at (blocks_of a.n a.store.now) in
     let l = c.loop-at in
-    laid_grows look l.at l.k (rows_of (l.last + 1) l.tab) (get_or (lent a.store.now (l.at + l.k)) 6 0) l.tab (lent a.store.now (l.at + l.k)) (l.last + 1) c.two_at-m.result (omega arith) (omega (arith, s.requires.room, l.invariant.2)) (part_size a.store.now a.n (l.at + l.k) s.requires.whole (omega arith)) c.two_at-m.ensures.0 (sym c.laid_at.ensures ∙ c.if-not-laid_at.false)
+    laid_grows look l.at l.k (rows_of (l.last + 1) l.tab) (get_or (lent a.store.now (l.at + l.k)) 6 0) l.tab (lent a.store.now (l.at + l.k)) (l.last + 1) c.two_at-m.result (omega arith) (omega (arith, c.requires.room, l.invariant.2)) (part_size a.store.now a.n (l.at + l.k) c.requires.whole (omega arith)) c.two_at-m.ensures.0 (sym c.laid_at.ensures ∙ c.if-not-laid_at.false)
 
 add-at-2 : tie.Need-overflow_add-at-in-loop-at invariant-loop decreases-loop
 add-at-2 c = search rules
@@ -184,8 +173,7 @@ loop-less-3 c = search rules
 
 loop-again-3 : tie.Need-loop-at-preserved invariant-loop decreases-loop
 loop-again-3 c =
-    let s = c in
-    let a = s.args in
+    let a = c.args in
     let look = bytes_at (blocks_of a.n a.store.now) in
     let l = c.loop-at in
     let g = c.grow in (omega arith, omega arith, search rules, sym (turn-commit look a.n a.store.now l.at l.k l.last l.tab (omega arith) (kind-three (lent a.store.now (l.at + l.k)) (omega (arith, c.kind-kind.ensures)) (λ e. c.if-kind-eq2.false (c.kind-kind.ensures ∙ e)) (λ e. c.if-kind-eq4.false (c.kind-kind.ensures ∙ e))) (sym c.two_at.ensures.0 ∙ c.if-two_at-last.false) c.two_at-m.result g.new.tab c.two_at-m.ensures.0 (sym c.laid_at.ensures ∙ c.if-not-laid_at.false) g.ensures) ∙ l.invariant.3, λ z. plain-next a.store.now (l.at + l.k) (l.at + l.k + 1 + 0) (omega arith) (l.invariant.4 z) (λ e. c.if-kind-eq4.false (c.kind-kind.ensures ∙ e)))
@@ -195,8 +183,7 @@ same-length-8 c = search rules
 
 returns-8 : tie.Need-returns-then-met invariant-loop decreases-loop
 returns-8 c =
-    let s = c in
-    let a = s.args in
+    let a = c.args in
     let look = bytes_at (blocks_of a.n a.store.now) in
     let l = c.loop-at in
     record { is = sym (sym l.invariant.3 ∙ turn_end look a.n a.store.now l.at l.k l.last l.tab (omega arith) (omega arith)); markless = tt }
@@ -206,8 +193,7 @@ same-length-9 c = search rules
 
 returns-9 : tie.Need-returns invariant-loop decreases-loop
 returns-9 c =
-    let s = c in
-    let a = s.args in
+    let a = c.args in
     let look = bytes_at (blocks_of a.n a.store.now) in
     let l = c.loop-at in
     record { is = sym (sym l.invariant.3 ∙ turn_end look a.n a.store.now l.at l.k l.last l.tab (omega arith) (omega arith)); markless = plain-all a.store.now l.at l.k (l.invariant.4 c.if-met.false) }
@@ -228,8 +214,7 @@ pass_spec =
     part-b-end
     kind-requires
     (λ c. search rules)
-    (λ c. let s = c in
-    let a = s.args in
+    (λ c. let a = c.args in
     let look = bytes_at (blocks_of a.n a.store.now) in
     let l = c.loop-at in
     record { is = sym (sym l.invariant.3 ∙ turn-early look a.n a.store.now l.at l.k l.last l.tab (omega arith) (omega (arith, c.kind-kind.ensures))); markless = tt })
@@ -262,8 +247,7 @@ pass_spec =
     loop-less-3
     loop-again-3
     (λ c. search rules)
-    (λ c. let s = c in
-    let a = s.args in
+    (λ c. let a = c.args in
     let look = bytes_at (blocks_of a.n a.store.now) in
     let l = c.loop-at in
     record { is = sym (sym l.invariant.3 ∙ turn_many look a.n a.store.now l.at l.k l.last l.tab (omega arith) (omega arith)); markless = tt })

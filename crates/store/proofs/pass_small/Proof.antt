@@ -11,8 +11,7 @@ slice-aggregate-pass c = search rules
 
 pass-requires : tie.Need-pass-requires
 pass-requires c κs =
-    let k = c in
-    fresh k.args.store.now k.args.n 2048 k.requires.0 k.requires.1 (omega arith) (omega arith)
+    fresh c.args.store.now c.args.n 2048 c.requires.0 c.requires.1 (omega arith) (omega arith)
 
 returns : tie.Need-returns
 returns c = c.pass.ensures

@@ -27,14 +27,13 @@ part-size-end : tie.Need-slice_bounds-size-end
 part-size-end c = search rules
 
 size-requires : tie.Need-size-requires
-size-requires c κs = let k = c in part_size k.args.store.now k.args.n k.args.p k.requires.0 k.requires.1
+size-requires c κs = part_size c.args.store.now c.args.n c.args.p c.requires.0 c.requires.1
 
 returns : tie.Need-returns-then-n-q
 returns c =
-    let k = c in
-    let a = k.args in
+    let a = c.args in
     ap (λ (x : ℕ). eqb x 0) c.size.ensures.0
-    ∙ sym (ap₂ same (bytes_in_lem a.n a.p a.store.now k.requires.1) (bytes_past a.n a.q a.store.now c.if-n-q.true)
+    ∙ sym (ap₂ same (bytes_in_lem a.n a.p a.store.now c.requires.1) (bytes_past a.n a.q a.store.now c.if-n-q.true)
     ∙ same-nil (held (parse (lent a.store.now a.p))))
 
 mul-f : tie.Need-overflow_mul-f
@@ -62,18 +61,17 @@ part-same-held-end-2 : tie.Need-slice_bounds-same_held-end-2
 part-same-held-end-2 c = search rules
 
 same-held-requires : tie.Need-same_held-requires
-same-held-requires c κs = let k = c in (
-  part_size k.args.store.now k.args.n k.args.p k.requires.0 k.requires.1,
-  part_size k.args.store.now k.args.n k.args.q k.requires.0
+same-held-requires c κs = (
+  part_size c.args.store.now c.args.n c.args.p c.requires.0 c.requires.1,
+  part_size c.args.store.now c.args.n c.args.q c.requires.0
       (omega arith),
 )
 
 returns-2 : tie.Need-returns
 returns-2 c =
-    let k = c in
-    let a = k.args in
+    let a = c.args in
     c.same_held.ensures
-    ∙ sym (ap₂ same (bytes_in_lem a.n a.p a.store.now k.requires.1) (bytes_in_lem a.n a.q a.store.now (omega arith)))
+    ∙ sym (ap₂ same (bytes_in_lem a.n a.p a.store.now c.requires.1) (bytes_in_lem a.n a.q a.store.now (omega arith)))
 
 pub same_bytes_spec : {M : Type 1} → statement M
 same_bytes_spec =

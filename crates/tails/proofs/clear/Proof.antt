@@ -22,15 +22,15 @@ add-p : tie.Need-overflow_add-p invariant-loop decreases-loop
 add-p c = search rules
 
 loop-holds : tie.Need-loop-p-init invariant-loop decreases-loop
-loop-holds c = let k = c.before in (omega arith, (omega arith, omega arith), refl, sym k.requires.rest)
+loop-holds c = (omega arith, (omega arith, omega arith), refl, sym c.requires.rest)
 
 same_length : tie.Need-shape_of-store-then-left-eq0 invariant-loop decreases-loop
 same_length c = search rules
 
 returns : tie.Need-returns-then-left-eq0 invariant-loop decreases-loop
 returns c =
-    let a = c.before.before.before.before.args in
-    let l = c.before.before.loop-p in
+    let a = c.args in
+    let l = c.loop-p in
     (sym (lt-leb a.count a.n (omega arith)), l.invariant.3 ∙ blank_at a.store.now l.p (a.used + (a.count - a.n)) (omega arith))
 
 sub-p : tie.Need-overflow_sub-p invariant-loop decreases-loop
@@ -53,12 +53,11 @@ loop-less c = search rules
 
 loop-again : tie.Need-loop-p-preserved invariant-loop decreases-loop
 loop-again c =
-    let k = c.before.before.before.before.before.before.before.before in
-    let l = c.before.before.before.before.before.before.loop-p in (
+    let l = c.loop-p in (
       omega arith,
       (omega arith, omega arith),
       search rules,
-      c.before.before.clear.ensures ∙ clear_next k.args.store.now l.store l.p (l.p - 1) l.invariant.3 (omega arith) (omega (arith, k.requires.room)),
+      c.clear.ensures ∙ clear_next c.args.store.now l.store l.p (l.p - 1) l.invariant.3 (omega arith) (omega (arith, c.requires.room)),
     )
 
 same-length-2 : tie.Need-shape_of-store invariant-loop decreases-loop
@@ -66,8 +65,8 @@ same-length-2 c = search rules
 
 returns-2 : tie.Need-returns invariant-loop decreases-loop
 returns-2 c =
-    let a = c.before.before.before.args in
-    let l = c.before.loop-p in
+    let a = c.args in
+    let l = c.loop-p in
     (sym (le-leb a.count a.n (omega arith)), l.invariant.3 ∙ blank_at a.store.now l.p (a.used + (a.count - a.n)) (omega arith))
 
 pub clear_spec : {M : Type 1} → statement M

@@ -19,7 +19,7 @@ abbrev decreases-loop : tie.decreases-loop-t
 decreases-loop store used n t₀ t = n - t
 
 loop-holds : tie.Need-loop-t-init invariant-loop decreases-loop
-loop-holds c = let k = c.before in (refl, omega (arith, tail-room k.args.store.now k.args.used k.requires), omega arith)
+loop-holds c = (refl, omega (arith, tail-room c.args.store.now c.args.used c.requires), omega arith)
 
 add-loop : tie.Need-overflow_add-used invariant-loop decreases-loop
 add-loop c = search rules
@@ -46,8 +46,8 @@ is-zero-requires : tie.Need-is_zero-requires invariant-loop decreases-loop
 is-zero-requires c κs = search rules
 
 returns : tie.Need-returns-then-is_zero invariant-loop decreases-loop
-returns c = let k = c.before.before.before.before.before.before in let s = k.args.store.now in let l = c.before.before.before.before.loop-t in
-    tail-stops s k.args.used k.requires l.t l.invariant.2 (omega arith) (ap is_zero (sym (lent_block s (k.args.used + l.t))) ∙ sym c.before.is_zero.ensures ∙ c.if-is_zero.true)
+returns c = let s = c.args.store.now in let l = c.loop-t in
+    tail-stops s c.args.used c.requires l.t l.invariant.2 (omega arith) (ap is_zero (sym (lent_block s (c.args.used + l.t))) ∙ sym c.is_zero.ensures ∙ c.if-is_zero.true)
 
 add-t : tie.Need-overflow_add-t invariant-loop decreases-loop
 add-t c = search rules
@@ -56,14 +56,14 @@ loop-less : tie.Need-loop-t-smaller invariant-loop decreases-loop
 loop-less c = search rules
 
 loop-again : tie.Need-loop-t-preserved invariant-loop decreases-loop
-loop-again c = let k = c.before.before.before.before.before.before in let s = k.args.store.now in let l = c.before.before.before.before.loop-t in (
+loop-again c = let s = c.args.store.now in let l = c.loop-t in (
   l.invariant.0,
   omega arith,
-  tail_goes s k.args.used k.requires l.t l.invariant.2 (omega arith) (ap is_zero (sym (lent_block s (k.args.used + l.t))) ∙ sym c.before.is_zero.ensures ∙ c.if-is_zero.false),
+  tail_goes s c.args.used c.requires l.t l.invariant.2 (omega arith) (ap is_zero (sym (lent_block s (c.args.used + l.t))) ∙ sym c.is_zero.ensures ∙ c.if-is_zero.false),
 )
 
 returns-2 : tie.Need-returns invariant-loop decreases-loop
-returns-2 c = let k = c.before.before.before in let l = c.before.loop-t in omega (arith, tail-room k.args.store.now k.args.used k.requires)
+returns-2 c = let l = c.loop-t in omega (arith, tail-room c.args.store.now c.args.used c.requires)
 
 pub count_spec : {M : Type 1} → statement M
 count_spec =

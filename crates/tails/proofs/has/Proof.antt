@@ -10,7 +10,7 @@ use Rattle.tails.proofs.has.Statement.{statement}
 use Rattle.tails.proofs.has.Tie as tie
 
 returns : tie.Need-returns-then-store-used
-returns c = let k = c.before.before in tail_none k.args.store.now k.args.used k.requires (omega arith)
+returns c = tail_none c.args.store.now c.args.used c.requires (omega arith)
 
 mul-a : tie.Need-overflow_mul-a
 mul-a c = search rules
@@ -31,8 +31,8 @@ is-zero-requires : tie.Need-is_zero-requires
 is-zero-requires c κs = search rules
 
 returns-2 : tie.Need-returns
-returns-2 c = let k = c.before.before.before.before in let s = k.args.store.now in
-    tail-some s k.args.used k.requires (omega arith) (c.is_zero.ensures ∙ ap is_zero (lent_block s k.args.used))
+returns-2 c = let s = c.args.store.now in
+    tail-some s c.args.used c.requires (omega arith) (c.is_zero.ensures ∙ ap is_zero (lent_block s c.args.used))
 
 pub has_spec : {M : Type 1} → statement M
 has_spec =

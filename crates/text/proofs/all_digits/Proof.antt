@@ -28,8 +28,7 @@ digit-requires c κs = search rules
 
 returns : tie.Need-returns-then-digit-ge16 invariant-loop decreases-loop
 returns c =
-    let l = c in
-    sym (digits_other c.args.w.now l.loop-i.i c.digit.result (omega arith) c.digit.ensures.0 c.if-digit-ge16.true) ∙ l.loop-i.invariant.1
+    sym (digits_other c.args.w.now c.loop-i.i c.digit.result (omega arith) c.digit.ensures.0 c.if-digit-ge16.true) ∙ c.loop-i.invariant.1
 
 add-i : tie.Need-overflow_add-i invariant-loop decreases-loop
 add-i c = search rules
@@ -39,8 +38,7 @@ loop-less c = search rules
 
 loop-again : tie.Need-loop-i-preserved invariant-loop decreases-loop
 loop-again c =
-    let l = c in
-    (omega arith, sym (digits_next c.args.w.now l.loop-i.i c.digit.result (omega arith) c.digit.ensures.0 (omega arith)) ∙ l.loop-i.invariant.1)
+    (omega arith, sym (digits_next c.args.w.now c.loop-i.i c.digit.result (omega arith) c.digit.ensures.0 (omega arith)) ∙ c.loop-i.invariant.1)
 
 returns-2 : tie.Need-returns invariant-loop decreases-loop
 returns-2 c = sym (digits_end c.args.w.now c.loop-i.i (omega arith)) ∙ c.loop-i.invariant.1

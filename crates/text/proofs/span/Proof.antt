@@ -23,7 +23,7 @@ shared-slice-read-if1 : tie.Need-bounds-s-i invariant-loop decreases-loop
 shared-slice-read-if1 c = search rules
 
 returns : tie.Need-returns-then-s-i invariant-loop decreases-loop
-returns c = let l = c in omega (arith, span_here l.args.b l.args.s.now l.loop-i.i (omega arith) c.if-s-i.true)
+returns c = omega (arith, span_here c.args.b c.args.s.now c.loop-i.i (omega arith) c.if-s-i.true)
 
 add-i : tie.Need-overflow_add-i invariant-loop decreases-loop
 add-i c = search rules
@@ -32,10 +32,10 @@ loop-less : tie.Need-loop-i-smaller invariant-loop decreases-loop
 loop-less c = search rules
 
 loop-again : tie.Need-loop-i-preserved invariant-loop decreases-loop
-loop-again c = let l = c in (omega arith, omega (arith, span_next l.args.b l.args.s.now l.loop-i.i (omega arith) c.if-s-i.false))
+loop-again c = (omega arith, omega (arith, span_next c.args.b c.args.s.now c.loop-i.i (omega arith) c.if-s-i.false))
 
 returns-2 : tie.Need-returns invariant-loop decreases-loop
-returns-2 c = let l = c in omega (arith, span_end l.args.b l.args.s.now l.loop-i.i (omega arith))
+returns-2 c = omega (arith, span_end c.args.b c.args.s.now c.loop-i.i (omega arith))
 
 pub span_spec : {M : Type 1} → statement M
 span_spec =

@@ -26,7 +26,7 @@ digit-requires : tie.Need-digit-d-requires invariant-loop decreases-loop
 digit-requires c κs = search rules
 
 returns : tie.Need-returns-then-d-ge10 invariant-loop decreases-loop
-returns c = let l = c in sym (value_other l.args.w.now l.loop-i.n l.loop-i.i c.digit-d.result (omega arith) c.digit-d.ensures.0 (omega arith)) ∙ l.loop-i.invariant.2
+returns c = sym (value_other c.args.w.now c.loop-i.n c.loop-i.i c.digit-d.result (omega arith) c.digit-d.ensures.0 (omega arith)) ∙ c.loop-i.invariant.2
 
 mul-n : tie.Need-overflow_mul-n invariant-loop decreases-loop
 mul-n c = search rules
@@ -35,7 +35,7 @@ add-n : tie.Need-overflow_add-n invariant-loop decreases-loop
 add-n c = search rules
 
 returns-2 : tie.Need-returns-then-n-gt4294967295 invariant-loop decreases-loop
-returns-2 c = let l = c in sym (value_large l.args.w.now l.loop-i.n l.loop-i.i c.digit-d.result (omega arith) c.digit-d.ensures.0 (omega arith) (omega arith)) ∙ l.loop-i.invariant.2
+returns-2 c = sym (value_large c.args.w.now c.loop-i.n c.loop-i.i c.digit-d.result (omega arith) c.digit-d.ensures.0 (omega arith) (omega arith)) ∙ c.loop-i.invariant.2
 
 add-i : tie.Need-overflow_add-i invariant-loop decreases-loop
 add-i c = search rules
@@ -44,13 +44,13 @@ loop-less : tie.Need-loop-i-smaller invariant-loop decreases-loop
 loop-less c = search rules
 
 loop-again : tie.Need-loop-i-preserved invariant-loop decreases-loop
-loop-again c = let l = c in (omega arith, omega arith, sym (value_next l.args.w.now l.loop-i.n l.loop-i.i c.digit-d.result (omega arith) c.digit-d.ensures.0 (omega arith) (omega arith)) ∙ l.loop-i.invariant.2)
+loop-again c = (omega arith, omega arith, sym (value_next c.args.w.now c.loop-i.n c.loop-i.i c.digit-d.result (omega arith) c.digit-d.ensures.0 (omega arith) (omega arith)) ∙ c.loop-i.invariant.2)
 
 cast-t10 : tie.Need-overflow_cast-result invariant-loop decreases-loop
 cast-t10 c = search rules
 
 returns-3 : tie.Need-returns invariant-loop decreases-loop
-returns-3 c = let l = c in sym (value_end l.args.w.now l.loop-i.n l.loop-i.i (omega arith)) ∙ l.loop-i.invariant.2
+returns-3 c = sym (value_end c.args.w.now c.loop-i.n c.loop-i.i (omega arith)) ∙ c.loop-i.invariant.2
 
 pub value_spec : {M : Type 1} → statement M
 value_spec =

@@ -35,8 +35,7 @@ conflicts-requires c κs = (c.requires.0, (low c).0, c.requires.1)
 returns : tie.Need-returns-then-conflicts invariant-loop decreases-loop
 returns c =
     let l = low c.before.before in
-    let k = c in
-    conflict_here k.requires.0 k.args.r l.1 l.0 c.conflicts.ensures c.if-conflicts.true ∙ c.loop-m.invariant.1
+    conflict_here c.requires.0 c.args.r l.1 l.0 c.conflicts.ensures c.if-conflicts.true ∙ c.loop-m.invariant.1
 
 sub-m : tie.Need-overflow_sub-m invariant-loop decreases-loop
 sub-m c = omega arith
@@ -47,14 +46,12 @@ loop-less c = let l = low c.before.before in rw (and_cleared l.1) (cleared_lt l.
 loop-again : tie.Need-loop-m-preserved invariant-loop decreases-loop
 loop-again c =
     let l = low c.before.before in
-    let k = c in
     rw (and_cleared l.1)
-    (omega (arith, cleared_lt l.1, c.loop-m.invariant.0), conflict-next k.requires.0 k.args.r l.1 l.0 c.conflicts.ensures c.if-conflicts.false ∙ c.loop-m.invariant.1)
+    (omega (arith, cleared_lt l.1, c.loop-m.invariant.0), conflict-next c.requires.0 c.args.r l.1 l.0 c.conflicts.ensures c.if-conflicts.false ∙ c.loop-m.invariant.1)
 
 returns-2 : tie.Need-returns invariant-loop decreases-loop
 returns-2 c =
-    let k = c in
-    conflict-none k.requires.0 k.args.r (omega arith) ∙ c.loop-m.invariant.1
+    conflict-none c.requires.0 c.args.r (omega arith) ∙ c.loop-m.invariant.1
 
 pub any_conflict_spec : {M : Type 1} → statement M
 any_conflict_spec =

@@ -15,7 +15,7 @@ enum-known-state : tie.Need-enum_known-state
 enum-known-state c = search rules
 
 take-sheet-requires : tie.Need-take_sheet-requires
-take-sheet-requires c κs = let k = c in (k.requires.0, k.requires.1, normal_base k.requires.0 c.entry_at-e.ensures c.in-Normal.is)
+take-sheet-requires c κs = (c.requires.0, c.requires.1, normal_base c.requires.0 c.entry_at-e.ensures c.in-Normal.is)
 
 enum-told-2 : tie.Need-enum_told-in-Added
 enum-told-2 c = search rules
@@ -27,7 +27,7 @@ enum-known-state-2 : tie.Need-enum_known-state-in-Deleted-1
 enum-known-state-2 c = search rules
 
 take-sheet-requires-2 : tie.Need-take_sheet-requires-in-Deleted
-take-sheet-requires-2 c κs = let k = c in (k.requires.0, k.requires.1, deleted_base k.requires.0 c.entry_at-e.ensures c.in-Deleted.is)
+take-sheet-requires-2 c κs = (c.requires.0, c.requires.1, deleted_base c.requires.0 c.entry_at-e.ensures c.in-Deleted.is)
 
 enum-told-3 : tie.Need-enum_told-in-Copied
 enum-told-3 c = search rules

@@ -9,13 +9,13 @@ look-up-requires : tie.Need-look_up-f-requires
 look-up-requires c κs = search rules
 
 take-block-requires : tie.Need-take_block-requires
-take-block-requires c κs = let k = c in sheet_takable k.requires.0 k.requires.2 c.look_up-f.ensures k.requires.1
+take-block-requires c κs = sheet_takable c.requires.0 c.requires.2 c.look_up-f.ensures c.requires.1
 
 same_length : tie.Need-shape_of-copy
 same_length c = search rules
 
 returns : tie.Need-returns
-returns c = let k = c in sheet-taken k.requires.0 k.requires.2 c.look_up-f.ensures c.take_block.ensures
+returns c = sheet-taken c.requires.0 c.requires.2 c.look_up-f.ensures c.take_block.ensures
 
 pub take_sheet_spec : {M : Type 1} → statement M
 take_sheet_spec = tie.close (tie.spec look-up-requires take-block-requires same_length returns)

@@ -9,7 +9,7 @@ returns : tie.Need-returns-then-mask-eq0
 returns c = let a = c.args in update_none a.store.now a.copy.now a.mask a.revision c.if-mask-eq0.true
 
 returns-2 : tie.Need-returns-then-v-revision
-returns-2 c = let k = c in let a = k.args in update_late a.store.now a.copy.now a.mask c.if-mask-eq0.false k.requires a.revision c.if-v-revision.true
+returns-2 c = let a = c.args in update_late a.store.now a.copy.now a.mask c.if-mask-eq0.false c.requires a.revision c.if-v-revision.true
 
 any-conflict-requires : tie.Need-any_conflict-requires
 any-conflict-requires c κs = search rules
@@ -19,9 +19,8 @@ same_length c = search rules
 
 returns-3 : tie.Need-returns-then-any_conflict
 returns-3 c =
-    let k = c in
-    let a = k.args in
-    update_refused a.store.now a.copy.now a.mask c.if-mask-eq0.false k.requires a.revision c.if-v-revision.false c.any_conflict.ensures c.if-any_conflict.true
+    let a = c.args in
+    update_refused a.store.now a.copy.now a.mask c.if-mask-eq0.false c.requires a.revision c.if-v-revision.false c.any_conflict.ensures c.if-any_conflict.true
 
 update-all-requires : tie.Need-update_all-requires
 update-all-requires c κs = search rules
@@ -31,9 +30,8 @@ same-length-2 c = search rules
 
 returns-4 : tie.Need-returns
 returns-4 c =
-    let k = c in
-    let a = k.args in
-    update_done a.store.now a.copy.now a.mask c.if-mask-eq0.false k.requires a.revision c.if-v-revision.false c.any_conflict.ensures c.if-any_conflict.false c.update_all.ensures
+    let a = c.args in
+    update_done a.store.now a.copy.now a.mask c.if-mask-eq0.false c.requires a.revision c.if-v-revision.false c.any_conflict.ensures c.if-any_conflict.false c.update_all.ensures
 
 pub update_spec : {M : Type 1} → statement M
 update_spec =

@@ -40,9 +40,8 @@ loop-less c = let l = low c.before.before.before.before in rw (and_cleared l.1) 
 loop-again : tie.Need-loop-m-preserved invariant-loop decreases-loop
 loop-again c =
     let l = low c.before.before.before.before in
-    let k = c in
     let d = c.loop-m in
-    rw (and_cleared l.1) (doing-next d.invariant l.1 l.0 (update_keeps d.invariant.fitting (count_trailing_zeros 32 d.m) k.args.r k.requires.1) c.update_one.ensures)
+    rw (and_cleared l.1) (doing-next d.invariant l.1 l.0 (update_keeps d.invariant.fitting (count_trailing_zeros 32 d.m) c.args.r c.requires.1) c.update_one.ensures)
 
 same_length : tie.Need-shape_of-copy invariant-loop decreases-loop
 same_length c = doing-length c.loop-m.invariant c.requires.0

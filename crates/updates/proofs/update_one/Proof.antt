@@ -25,8 +25,7 @@ enum-known-u c = search rules
 
 take-block-requires : tie.Need-take_block-requires
 take-block-requires c κs =
-    let k = c in
-    update_takable k.requires.0 c.update_of-u.ensures k.requires.2 k.requires.1 c.in-Take.is
+    update_takable c.requires.0 c.update_of-u.ensures c.requires.2 c.requires.1 c.in-Take.is
 
 enum-told-4 : tie.Need-enum_told-in-Rebase
 enum-told-4 c = search rules
@@ -39,48 +38,42 @@ rebased-requires c κs = search rules
 
 set-entry-requires : tie.Need-set_entry-requires
 set-entry-requires c κs =
-    let k = c in
-    rebase_put k.requires.0 c.update_of-u.ensures c.in-Rebase.is c.entry_at-e.ensures c.rebased-state.ensures k.requires.2 k.requires.1
+    rebase_put c.requires.0 c.update_of-u.ensures c.in-Rebase.is c.entry_at-e.ensures c.rebased-state.ensures c.requires.2 c.requires.1
 
 same_length : tie.Need-shape_of-copy-in-Conflict
 same_length c = search rules
 
 returns : tie.Need-returns-in-Conflict
 returns c =
-    let k = c in
-    update_conflict k.requires.0 c.update_of-u.ensures c.in-Conflict.is
+    update_conflict c.requires.0 c.update_of-u.ensures c.in-Conflict.is
 
 same-length-2 : tie.Need-shape_of-copy-in-Stay
 same-length-2 c = search rules
 
 returns-2 : tie.Need-returns-in-Stay
 returns-2 c =
-    let k = c in
-    update_stays k.requires.0 c.update_of-u.ensures c.in-Stay.is
+    update_stays c.requires.0 c.update_of-u.ensures c.in-Stay.is
 
 same-length-3 : tie.Need-shape_of-copy-in-Clear
 same-length-3 c = search rules
 
 returns-3 : tie.Need-returns-in-Clear
 returns-3 c =
-    let k = c in
-    updates k.requires.0 c.update_of-u.ensures c.in-Clear.is c.clear.ensures
+    updates c.requires.0 c.update_of-u.ensures c.in-Clear.is c.clear.ensures
 
 same-length-4 : tie.Need-shape_of-copy-in-Take
 same-length-4 c = search rules
 
 returns-4 : tie.Need-returns-in-Take
 returns-4 c =
-    let k = c in
-    updates k.requires.0 c.update_of-u.ensures c.in-Take.is c.take_block.ensures
+    updates c.requires.0 c.update_of-u.ensures c.in-Take.is c.take_block.ensures
 
 same-length-5 : tie.Need-shape_of-copy-in-Rebase
 same-length-5 c = search rules
 
 returns-5 : tie.Need-returns-in-Rebase
 returns-5 c =
-    let k = c in
-    update_rebases k.requires.0 c.update_of-u.ensures c.in-Rebase.is c.entry_at-e.ensures c.rebased-state.ensures c.set_entry.ensures
+    update_rebases c.requires.0 c.update_of-u.ensures c.in-Rebase.is c.entry_at-e.ensures c.rebased-state.ensures c.set_entry.ensures
 
 pub update_one_spec : {M : Type 1} → statement M
 update_one_spec =

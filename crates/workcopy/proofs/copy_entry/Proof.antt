@@ -29,7 +29,7 @@ add-copy-bytes : tie.Need-overflow_add-b-2
 add-copy-bytes c = search rules
 
 copy-bytes-requires : tie.Need-copy_bytes-requires
-copy-bytes-requires c κs = let a = c in copy_apart a.args.copy.now a.args.from a.args.to a.args.e a.requires
+copy-bytes-requires c κs = copy_apart c.args.copy.now c.args.from c.args.to c.args.e c.requires
 
 sub-set-block : tie.Need-slice_bounds-set_block-count
 sub-set-block c = search rules
@@ -42,18 +42,16 @@ part-set-block-end c = search rules
 
 set-block-requires : tie.Need-set_block-requires
 set-block-requires c κs =
-    let a = c in
-    let at = 512 * (a.args.to + 1) in
-    copy-fits a.args.copy.now a.args.from a.args.to a.args.e a.requires c.copy_bytes.ensures (at + 512 - at) (omega arith) (omega arith)
+    let at = 512 * (c.args.to + 1) in
+    copy-fits c.args.copy.now c.args.from c.args.to c.args.e c.requires c.copy_bytes.ensures (at + 512 - at) (omega arith) (omega arith)
 
 same_length : tie.Need-shape_of-copy
 same_length c = search rules
 
 returns : tie.Need-returns
 returns c =
-    let a = c in
-    let at = 512 * (a.args.to + 1) in
-    copy_is a.args.copy.now a.args.from a.args.to a.args.e a.requires c.copy_bytes.ensures (at + 512 - at) (omega arith) c.set_block.ensures
+    let at = 512 * (c.args.to + 1) in
+    copy_is c.args.copy.now c.args.from c.args.to c.args.e c.requires c.copy_bytes.ensures (at + 512 - at) (omega arith) c.set_block.ensures
 
 pub copy_entry_spec : {M : Type 1} → statement M
 copy_entry_spec =

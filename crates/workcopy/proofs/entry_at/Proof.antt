@@ -33,9 +33,8 @@ read-entry-requires c κs = search rules
 
 returns : tie.Need-returns
 returns c =
-    let a = c in
-    let at = 512 * (a.args.i + 1) in
-    reading a.args.copy.now a.args.i a.requires.0 a.requires.1 (c.read_entry.ensures ∙ lent read_entry a.args.copy.now at (at + 512 - at) (omega arith))
+    let at = 512 * (c.args.i + 1) in
+    reading c.args.copy.now c.args.i c.requires.0 c.requires.1 (c.read_entry.ensures ∙ lent read_entry c.args.copy.now at (at + 512 - at) (omega arith))
 
 pub entry_at_spec : {M : Type 1} → statement M
 entry_at_spec =

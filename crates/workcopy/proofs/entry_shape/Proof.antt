@@ -17,16 +17,14 @@ get16-requires c κs = search rules
 
 returns : tie.Need-returns-then-n-gt480
 returns c =
-    let a = c in
-    entry_long a.args.s.now a.requires.0 (bytes c.before.before) a.requires.1 c.get16-n.result c.get16-n.ensures c.if-n-gt480.true
+    entry_long c.args.s.now c.requires.0 (bytes c.before.before) c.requires.1 c.get16-n.result c.get16-n.ensures c.if-n-gt480.true
 
 shared-slice-read-if2 : tie.Need-bounds-s-7
 shared-slice-read-if2 c = search rules
 
 returns-2 : tie.Need-returns-then-s-ne0
 returns-2 c =
-    let a = c in
-    entry_seven a.args.s.now a.requires.0 (bytes c.before.before.before.before) a.requires.1 c.if-s-ne0.true
+    entry_seven c.args.s.now c.requires.0 (bytes c.before.before.before.before) c.requires.1 c.if-s-ne0.true
 
 sub-is-zero : tie.Need-slice_bounds-is_zero-count
 sub-is-zero c = search rules
@@ -42,8 +40,7 @@ is-zero-requires c κs = search rules
 
 returns-3 : tie.Need-returns-then-not-is_zero
 returns-3 c =
-    let a = c in
-    entry_gap a.args.s.now a.requires.0 (bytes c.before.before.before.before.before.before.before) a.requires.1 (sym c.is_zero.ensures ∙ c.if-not-is_zero.true)
+    entry_gap c.args.s.now c.requires.0 (bytes c.before.before.before.before.before.before.before) c.requires.1 (sym c.is_zero.ensures ∙ c.if-not-is_zero.true)
 
 cast-end : tie.Need-overflow_cast-end
 cast-end c = search rules
@@ -65,8 +62,7 @@ is-zero-requires-2 c κs = search rules
 
 returns-4 : tie.Need-returns-then-not-is_zero-2
 returns-4 c =
-    let a = c in
-    entry-rest a.args.s.now a.requires.0 (bytes c.before.before.before.before.before.before.before.before.before.before) a.requires.1 c.get16-n.result c.get16-n.ensures c.if-n-gt480.false
+    entry-rest c.args.s.now c.requires.0 (bytes c.before.before.before.before.before.before.before.before.before.before) c.requires.1 c.get16-n.result c.get16-n.ensures c.if-n-gt480.false
     (sym c.is_zero-2.ensures ∙ c.if-not-is_zero-2.true)
 
 get16-requires-2 : tie.Need-get16-base-requires
@@ -86,8 +82,7 @@ fields-ok-requires c κs = search rules
 
 returns-5 : tie.Need-returns
 returns-5 c =
-    let a = c in
-    entry-last a.args.s.now a.requires.0 (bytes c.before.before.before.before.before.before.before.before.before.before.before.before.before.before.before) a.requires.1 c.get16-n.result c.get16-n.ensures c.if-n-gt480.false c.if-s-ne0.false
+    entry-last c.args.s.now c.requires.0 (bytes c.before.before.before.before.before.before.before.before.before.before.before.before.before.before.before) c.requires.1 c.get16-n.result c.get16-n.ensures c.if-n-gt480.false c.if-s-ne0.false
     (sym c.is_zero.ensures ∙ c.if-not-is_zero.false) (sym c.is_zero-2.ensures ∙ c.if-not-is_zero-2.false)
     c.get16-base.ensures c.get16-revision.ensures c.fields_ok.ensures
 

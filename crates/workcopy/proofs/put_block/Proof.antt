@@ -10,16 +10,14 @@ put-bytes-requires c κs = search rules
 
 set-block-requires : tie.Need-set_block-requires
 set-block-requires c κs =
-    let a = c in
-    put-fits a.args.e a.args.s.now a.args.bytes.now a.requires.0 a.requires.1 c.put_bytes.ensures
+    put-fits c.args.e c.args.s.now c.args.bytes.now c.requires.0 c.requires.1 c.put_bytes.ensures
 
 same_length : tie.Need-shape_of-s
 same_length c = search rules
 
 returns : tie.Need-returns
 returns c =
-    let a = c in
-    put-block_is a.args.e a.args.s.now a.args.bytes.now a.requires.0 a.requires.1 c.put_bytes.ensures c.set_block.ensures
+    put-block_is c.args.e c.args.s.now c.args.bytes.now c.requires.0 c.requires.1 c.put_bytes.ensures c.set_block.ensures
 
 pub put_block_spec : {M : Type 1} → statement M
 put_block_spec = tie.close (tie.spec put-bytes-requires set-block-requires same_length returns)

@@ -27,18 +27,16 @@ part-put-block-end c = search rules
 
 put-block-requires : tie.Need-put_block-requires
 put-block-requires c κs =
-    let a = c in
-    let at = 512 * (a.args.i + 1) in
-    (lent_length a.args.copy.now at (at + 512 - at) (omega arith) (omega (arith, a.requires.inside, a.requires.copy.size)), a.requires.fit)
+    let at = 512 * (c.args.i + 1) in
+    (lent_length c.args.copy.now at (at + 512 - at) (omega arith) (omega (arith, c.requires.inside, c.requires.copy.size)), c.requires.fit)
 
 same_length : tie.Need-shape_of-copy
 same_length c = search rules
 
 returns : tie.Need-returns
 returns c =
-    let a = c in
-    let at = 512 * (a.args.i + 1) in
-    put_back a.args.copy.now a.args.i (at + 512 - at) a.args.e a.args.bytes.now a.requires (omega arith) c.put_block.ensures
+    let at = 512 * (c.args.i + 1) in
+    put_back c.args.copy.now c.args.i (at + 512 - at) c.args.e c.args.bytes.now c.requires (omega arith) c.put_block.ensures
 
 pub put_entry_spec : {M : Type 1} → statement M
 put_entry_spec =

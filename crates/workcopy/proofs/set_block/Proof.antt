@@ -8,10 +8,10 @@ use Rattle.workcopy.specs.Copy.{bytes_in}
 use Rattle.workcopy.proofs.set_block.Tie as tie
 
 head-of-requires : tie.Need-head_of-head-requires
-head-of-requires c κs = let a = c in fit_small a.args.e (bytes_in a.args.e a.args.s.now) a.requires.1
+head-of-requires c κs = fit_small c.args.e (bytes_in c.args.e c.args.s.now) c.requires.1
 
 add-end : tie.Need-overflow_add-end
-add-end c = let a = c in omega (arith, fit-short a.args.e (bytes_in a.args.e a.args.s.now) a.requires.1)
+add-end c = omega (arith, fit-short c.args.e (bytes_in c.args.e c.args.s.now) c.requires.1)
 
 slice-aggregate-put-bytes : tie.Need-slice_bounds-put_bytes-end
 slice-aggregate-put-bytes c = search rules
@@ -30,8 +30,7 @@ same_length c = search rules
 
 returns : tie.Need-returns
 returns c =
-    let a = c in
-    set_is a.args.e a.args.s.now c.head_of-head.result a.requires.0 a.requires.1 c.head_of-head.ensures c.put_bytes.ensures c.clear.ensures c.seal.ensures
+    set_is c.args.e c.args.s.now c.head_of-head.result c.requires.0 c.requires.1 c.head_of-head.ensures c.put_bytes.ensures c.clear.ensures c.seal.ensures
 
 pub set_block_spec : {M : Type 1} → statement M
 set_block_spec =

@@ -34,21 +34,19 @@ part-set-block-end c = search rules
 
 set-block-requires : tie.Need-set_block-requires
 set-block-requires c κs =
-    let a = c in
-    let l = a.args.copy.now in
-    let at = 512 * (a.args.i + 1) in
-    (lent_length l at (at + 512 - at) (omega arith) (omega (arith, a.requires.inside, a.requires.copy.size)), subst (Fit a.args.e) (sym (lent (bytes_in a.args.e) l at (at + 512 - at) (omega arith))) a.requires.fit)
+    let l = c.args.copy.now in
+    let at = 512 * (c.args.i + 1) in
+    (lent_length l at (at + 512 - at) (omega arith) (omega (arith, c.requires.inside, c.requires.copy.size)), subst (Fit c.args.e) (sym (lent (bytes_in c.args.e) l at (at + 512 - at) (omega arith))) c.requires.fit)
 
 same_length : tie.Need-shape_of-copy
 same_length c = search rules
 
 returns : tie.Need-returns
 returns c =
-    let a = c in
-    let e = a.args.e in
-    let l = a.args.copy.now in
-    let at = 512 * (a.args.i + 1) in
-    put_back l a.args.i (at + 512 - at) e (bytes_in e (block_at l (a.args.i + 1))) a.requires (omega arith)
+    let e = c.args.e in
+    let l = c.args.copy.now in
+    let at = 512 * (c.args.i + 1) in
+    put_back l c.args.i (at + 512 - at) e (bytes_in e (block_at l (c.args.i + 1))) c.requires (omega arith)
     (c.set_block.ensures ∙ lent (λ (p : List ℕ). encode copy_fields (entry_block (entry_of e (bytes_in e p)))) l at (at + 512 - at) (omega arith))
 
 pub set_entry_spec : {M : Type 1} → statement M

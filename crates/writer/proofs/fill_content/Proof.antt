@@ -7,13 +7,8 @@ use Rattle.writer.proofs.fill_content.Tie as tie
 
 returns : tie.Need-returns
 returns c =
-    let c₄ = c.before.before in
-    let c₃ = c₄.before.before.before.before in
-    let c₂ = c₃.before.before.before.before in
-    let c₁ = c₂.before.before.before.before in
-    let s = c₁ in
-    content-filled s.args.revision s.args.bytes.now s.args.d.now c₁.put_head.new.d c₂.put_bytes.new.s c₃.clear.new.s c₄.seal.new.s
-    s.requires.0 s.requires.1.1 c₁.put_head.ensures c₂.put_bytes.ensures c₃.clear.ensures c₄.seal.ensures
+    content-filled c.args.revision c.args.bytes.now c.args.d.now c.put_head.new.d c.put_bytes.new.s c.clear.new.s c.seal.new.s
+    c.requires.0 c.requires.1.1 c.put_head.ensures c.put_bytes.ensures c.clear.ensures c.seal.ensures
 
 pub fill_content_spec : {M : Type 1} → statement M
 fill_content_spec =

@@ -7,13 +7,9 @@ use Rattle.writer.proofs.fill_release.Tie as tie
 
 returns : tie.Need-returns
 returns c =
-    let c₃ = c.before.before in
-    let c₂ = c₃.before.before.before.before in
-    let c₁ = c₂.before.before.before.before in
-    let s = c₁ in
-    let a = s.args in
-    release_filled a.revision a.seat a.stamp a.d.now c₁.put_head.new.d c₂.clear.new.s c₃.seal.new.s
-    s.requires.0 c₁.put_head.ensures c₂.clear.ensures c₃.seal.ensures
+    let a = c.args in
+    release_filled a.revision a.seat a.stamp a.d.now c.put_head.new.d c.clear.new.s c.seal.new.s
+    c.requires.0 c.put_head.ensures c.clear.ensures c.seal.ensures
 
 pub fill_release_spec : {M : Type 1} → statement M
 fill_release_spec =

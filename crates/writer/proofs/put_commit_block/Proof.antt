@@ -9,10 +9,9 @@ use Rattle.writer.proofs.put_commit_block.Tie as tie
 
 returns : tie.Need-returns
 returns c =
-    let s = c in
-    let a = s.args in
+    let a = c.args in
     let w = c.fill_commit in
-    block_lent a.store.now w.new.d a.block (commit a.revision a.seat a.stamp (lines_from a.lines 0 a.m)) w.ensures s.requires.0
+    block_lent a.store.now w.new.d a.block (commit a.revision a.seat a.stamp (lines_from a.lines 0 a.m)) w.ensures c.requires.0
 
 pub put_commit_block_spec : {M : Type 1} → statement M
 put_commit_block_spec =

@@ -8,11 +8,10 @@ use Rattle.writer.proofs.put_content.Tie as tie
 
 returns : tie.Need-returns
 returns c =
-    let s = c in
-    let a = s.args in
+    let a = c.args in
     let w = c.fill_content in
     block_lent a.store.now w.new.d a.block
-    (content a.revision a.bytes.now) w.ensures s.requires.0
+    (content a.revision a.bytes.now) w.ensures c.requires.0
 
 pub put_content_spec : {M : Type 1} → statement M
 put_content_spec =

@@ -38,21 +38,19 @@ returns c =
 put-entry-requires : tie.Need-put_entry-requires invariant-loop decreases-loop
 put-entry-requires c κs =
     let l = c.loop-j in
-    let s = c in
-    let a = s.args in
-    let G = s.requires.1.0 in
+    let a = c.args in
+    let G = c.requires.1.0 in
     let small : (get_or a.lines l.j no_line).sheet < 32 = G.named l.j (omega arith) in
     let fit = putting_room (sheet_in a.copy.now) a.lines a.n a.used a.revision a.m a.store.now
     l.store l.next l.left l.j l.invariant.1 (omega arith) c.if-l-next.false in (
-      omega (arith, fit, l.invariant.1.long, s.requires.1.1),
-      (s.requires.0, (G.whole, (small, G.sized (get_or a.lines l.j no_line).sheet small))),
+      omega (arith, fit, l.invariant.1.long, c.requires.1.1),
+      (c.requires.0, (G.whole, (small, G.sized (get_or a.lines l.j no_line).sheet small))),
     )
 
 add-next : tie.Need-overflow_add-next invariant-loop decreases-loop
 add-next c =
     let l = c.loop-j in
-    let s = c in
-    omega (arith, l.invariant.1.whole, s.requires.1.1, s.well_formed.0.0)
+    omega (arith, l.invariant.1.whole, c.requires.1.1, c.well_formed.0.0)
 
 loop-again-2 : tie.Need-loop-j-preserved invariant-loop decreases-loop
 loop-again-2 c =

@@ -33,11 +33,10 @@ put-content-requires c κs =
 returns : tie.Need-returns
 unfolding size_in
 returns c =
-    let p = c in
-    let t = p.get16-n in
-    let a = p.args in
+    let t = c.get16-n in
+    let a = c.args in
     let at = 512 * (a.sheet + 1) in
-    p.put_content.ensures
+    c.put_content.ensures
     ∙ ap (λ (b : List ℕ). written (512 * a.block) (encode fields_of (content a.revision b)) a.store.now)
     (part_sheet a.copy.now a.sheet t.result (at + 16 + t.result - (at + 16)) t.ensures (omega arith))
 

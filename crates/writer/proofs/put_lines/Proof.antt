@@ -19,10 +19,9 @@ decreases-loop d₀ m lines j₀ d j = m - j
 loop-again : tie.Need-loop-j-preserved invariant-loop decreases-loop
 loop-again c =
     let l = c.loop-j in
-    let s = c in
-    let a = s.args in
+    let a = c.args in
     let w = c.put_line in
-    (omega arith, omega arith, line_step a.lines a.m l.j l.d w.new.d s.requires.1 (omega arith) w.ensures ∙ l.invariant.2)
+    (omega arith, omega arith, line_step a.lines a.m l.j l.d w.new.d c.requires.1 (omega arith) w.ensures ∙ l.invariant.2)
 
 returns : tie.Need-returns invariant-loop decreases-loop
 returns c =

@@ -9,10 +9,9 @@ use Rattle.writer.proofs.put_release.Tie as tie
 
 returns : tie.Need-returns
 returns c =
-    let s = c in
-    let a = s.args in
+    let a = c.args in
     let w = c.fill_release in
-    block_lent a.store.now w.new.d a.block (mark (released a.revision a.seat a.stamp)) w.ensures s.requires.0
+    block_lent a.store.now w.new.d a.block (mark (released a.revision a.seat a.stamp)) w.ensures c.requires.0
 
 pub put_release_spec : {M : Type 1} → statement M
 put_release_spec =

@@ -16,13 +16,11 @@ contents s = contents_by (sheet_in s.args.copy.now) s.args.used (lines_from s.ar
 
 put-contents-requires : tie.Need-put_contents-cut-requires
 put-contents-requires c κs =
-    let s = c in
-    (s.requires.small, (s.requires.sourced, omega (arith, s.requires.room)))
+    (c.requires.small, (c.requires.sourced, omega (arith, c.requires.room)))
 
 returns : tie.Need-returns-then-left-eq0
 returns c =
-    let s = c in
-    let a = s.args in
+    let a = c.args in
     let w = c.put_contents-cut in
     cut_short (sheet_in a.copy.now) a.n a.used w.result.next w.result.left a.revision a.seat a.stamp (lines_from a.lines 0 a.m)
     a.store.now w.new.store w.ensures c.if-left-eq0.true
@@ -43,8 +41,7 @@ add-result c =
 
 returns-2 : tie.Need-returns
 returns-2 c =
-    let s = c in
-    let a = s.args in
+    let a = c.args in
     let w = c.put_contents-cut in
     let v = c.put_commit_block in
     cut_none (sheet_in a.copy.now) a.n a.used w.result.next w.result.left a.revision a.seat a.stamp (lines_from a.lines 0 a.m)
