@@ -1,5 +1,4 @@
 pub mod Says
-pub mod Fields
 pub mod Turns
 pub mod Fours
 pub mod Sealing

@@ -2,7 +2,7 @@
 -- Assumes nothing.
 use Prim.Native.Nat.{ℕ, ◌+◌, ◌*◌, ◌/◌, ◌%◌, ◌<◌}
 use mathlib.Core.Path.{◌≡◌, refl, sym, ap, ◌∙◌}
-use mathlib.Core.Bool.{false, ◌&&◌}
+use mathlib.Core.Bool.{Bool, false, ◌&&◌}
 use mathlib.Core.List.{List, [], ◌∷◌, ◌++◌, append-nil}
 use mathlib.Core.Logic.{inl, inr}
 use native.Mathlib.Omega.{arith}
@@ -75,6 +75,9 @@ length_seal l =
       | inr n ↦ sym (ap length (seal_not l n))
     ]
 
+eqb_flip : (a b : ℕ) → eqb a b ≡ eqb b a
+eqb_flip a b = says_alike (says_eq a b) (says_eq b a) sym sym
+
 module _ (l : List ℕ) (a b : ℕ) (size : length l ≡ 512) (s : sums 0 0 (take 508 l) ≡ (a, b)) where
   module _ (bytes : (i : ℕ) → get_or l i 0 < 256) where
     -- the check is right exactly where the two numbers that it states are the sums
@@ -85,11 +88,8 @@ module _ (l : List ℕ) (a b : ℕ) (size : length l ≡ 512) (s : sums 0 0 (tak
         (λ e. e) (λ e. e)
 
     -- the same with x and y read from the two fields
-    pub first_differs : {x : ℕ} → x ≡ two_at l 508 → (x ≡ a → ⊥) → false ≡ sealed l
-    first_differs ex n = sym (sealed_by ∙ rw (ne_eqb (two_at l 508) a (λ e. n (ex ∙ e))))
-
-    pub first-same : {x y : ℕ} → x ≡ two_at l 508 → x ≡ a → y ≡ two_at l 510 → eqb y b ≡ sealed l
-    first-same ex e ey = sym (sealed_by ∙ rw (eq-eqb (two_at l 508) a (sym ex ∙ e), ey))
+    pub check_is : {t : Bool} {x y : ℕ} → x ≡ two_at l 508 → y ≡ two_at l 510 → t ≡ (eqb a x && eqb b y) → t ≡ sealed l
+    check_is ex ey e = e ∙ rw (ex, ey, eqb_flip a (two_at l 508), eqb_flip b (two_at l 510)) (sym sealed_by)
 
   -- the check written as two fields
   pub seal_by : {t u : List ℕ} → t ≡ with_two l 508 a → u ≡ with_two t 510 b → u ≡ seal_of l

@@ -15,10 +15,13 @@ use Rattle.block.proofs.Sealing.{says-sealed, sealed-size, seal_is, length_seal}
 use Rattle.block.proofs.Parts.{block_size, seal_at_is, seal_at-not, put-leaves}
 use Rattle.block.proofs.Damage.{same_checks}
 
--- The two sums stay below the modulus, so that each fits its two bytes.
-pub sums-small : (a b : ℕ) (l : List ℕ) → a < 65_521 → b < 65_521 → ((sums a b l).0 < 65_521) × ((sums a b l).1 < 65_521)
+sums-small : (a b : ℕ) (l : List ℕ) → a < 65_521 → b < 65_521 → ((sums a b l).0 < 65_521) × ((sums a b l).1 < 65_521)
 sums-small a b [] h g = (h, g)
 sums-small a b (x ∷ l) h g = sums-small ((a + x) % 65_521) ((b + (a + x) % 65_521) % 65_521) l (omega arith) (omega arith)
+
+-- The two sums stay below the modulus, so that each fits its two bytes.
+pub sums_fit : (l : List ℕ) {a b : ℕ} → sums 0 0 l ≡ (a, b) → (a < 65_521) × (b < 65_521)
+sums_fit l e = rw e at (sums-small 0 0 l (omega arith) (omega arith))
 
 -- A block whose check is written is sealed.
 pub seal_seals : (l : List ℕ) → length l ≡ 512 → sealed (seal_of l) ≡ true

@@ -1,16 +1,17 @@
--- One turn of each loop over bytes, and its end: what is left from byte i on.
+-- A byte more in the two sums, and the bits of every byte gathered.
 -- Assumes nothing.
-use Prim.Native.Nat.{ℕ, suc, ◌+◌, ◌%◌, ◌≤◌, ◌<◌, min}
+use Prim.Native.Nat.{ℕ, suc, ◌+◌, ◌%◌, ◌<◌}
 use mathlib.Core.Path.{◌≡◌, sym, ap, ap₂, ◌∙◌}
-use mathlib.Core.Bool.{Bool, ◌&&◌, and_assoc, and-true}
-use mathlib.Core.List.{List, ◌∷◌}
+use mathlib.Core.Bool.{◌&&◌, and_assoc, and-true}
+use mathlib.Core.List.{List, [], ◌∷◌}
 use native.Mathlib.Nat.{mod-add-mod, add-mod-mod}
 use native.Mathlib.Numerals.{add-one}
 use native.Mathlib.Omega.{arith}
 use lib.Bits.{and_le_l, and_le_r, bit_or, or_add_and}
 use lib.Dec.{eqb}
-use lib.ListN.{length, get_or, take, drop, length-take, drop_of_length-le}
-use lib.Seq.{drop-cons, get_or-take}
+use lib.ListN.{length, get_or, drop}
+use lib.Seq.{drop-cons}
+use Rattle.std.specs.List.{fold}
 use Rattle.block.specs.Check.{sums, is_zero}
 use Rattle.block.proofs.Says.{says_alike, says-and, says_eq}
 
@@ -30,24 +31,14 @@ sums_byte a b x l =
     ap₂ (λ (u v : ℕ). sums u v l) p q
 
 module _ (l : List ℕ) (i : ℕ) where
-  pub sums-step : (n a b x : ℕ) → i < min n (length l) → x ≡ get_or l i 0
-      → sums (a % 65_521) (b % 65_521) (drop i (take n l)) ≡ sums ((a + x) % 65_521) ((b + (a + x)) % 65_521) (drop (i + 1) (take n l))
-  sums-step n a b x h e =
-      let f : get_or (take n l) i 0 ≡ x = get_or-take n l i 0 (omega arith) ∙ sym e in
-      let r = drop (suc i) (take n l) in
-      ap (sums (a % 65_521) (b % 65_521)) (drop-cons (take n l) i 0 (omega (arith, length-take n l)) ∙ ap (λ (y : ℕ). y ∷ r) f)
-      ∙ sums_byte a b x r
+  pub sums-step : (a b x : ℕ) → i < length l → x ≡ get_or l i 0
+      → sums (a % 65_521) (b % 65_521) (drop i l) ≡ sums ((a + x) % 65_521) ((b + (a + x)) % 65_521) (drop (i + 1) l)
+  sums-step a b x h e =
+      ap (sums (a % 65_521) (b % 65_521)) (drop-cons l i 0 h ∙ ap (λ (y : ℕ). y ∷ drop (suc i) l) (sym e))
+      ∙ sums_byte a b x (drop (suc i) l)
       ∙ rw (add-one i)
 
-  pub sums-done : (n a b : ℕ) → min n (length l) ≤ i → sums a b (drop i (take n l)) ≡ (a, b)
-  sums-done n a b h = rw (drop_of_length-le (take n l) {i = i} (omega (arith, length-take n l)))
-
-  -- the test for zeros, which gathers the bits of every byte
-  pub zero-step : (any : ℕ) → i < length l → (eqb (bit_or any (get_or l i 0)) 0 && is_zero (drop (i + 1) l)) ≡ (eqb any 0 && is_zero (drop i l))
-  zero-step any h =
-      ap (λ (b : Bool). b && is_zero (drop (i + 1) l)) (or_zero_lem any (get_or l i 0))
-      ∙ and_assoc (eqb any 0) (eqb (get_or l i 0) 0) (is_zero (drop (i + 1) l))
-      ∙ rw (drop-cons l i 0 h, add-one i)
-
-  pub zero-done : (any : ℕ) → length l ≤ i → (eqb any 0 && is_zero (drop i l)) ≡ eqb any 0
-  zero-done any h = rw (drop_of_length-le l {i = i} h) (and-true (eqb any 0))
+-- the bits of every byte gathered: none is set where every byte is zero
+pub gathered : (any : ℕ) (l : List ℕ) → eqb (fold bit_or any l) 0 ≡ (eqb any 0 && is_zero l)
+gathered any [] = sym (and-true (eqb any 0))
+gathered any (x ∷ l) = gathered (bit_or any x) l ∙ rw (or_zero_lem any x) (and_assoc (eqb any 0) (eqb x 0) (is_zero l))

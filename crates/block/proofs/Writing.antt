@@ -1,14 +1,18 @@
--- A run of elements written: one turn of the loops that write it, and where it fits, the list that comes out.
+-- A run of elements written: the list that comes out, where it fits and where it reaches past the end.
 -- Assumes nothing.
-use Prim.Native.Nat.{ℕ, suc, ◌+◌, ◌-◌, ◌≤◌, ◌<◌, min}
+use Prim.Native.Nat.{ℕ, suc, ◌+◌, ◌-◌, ◌/◌, ◌%◌, ◌≤◌, ◌<◌, min}
 use mathlib.Core.Path.{◌≡◌, refl, sym, ap, ◌∙◌}
 use mathlib.Core.List.{List, [], ◌∷◌, ◌++◌, append_assoc}
 use mathlib.Core.Logic.{inl, inr}
 use native.Mathlib.Omega.{arith}
 use native.Mathlib.Numerals.{add-one}
 use native.Mathlib.Nat.{add-zero}
-use lib.ListN.{length, set, take, drop, get_or, replicate, length-append, length-set, drop_of_length-le}
-use lib.Seq.{sets, sets-eq, set_out, take_at, drop_at, drop-cons}
+use borrow.Rule.Slice.PartMut.{put_mid}
+use lib.ListN.{length, set, take, drop, replicate, length-append, length-replicate, length-set, length-take, drop_of_length-le, take-append-drop}
+use lib.Seq.{sets, sets-eq, set_out, take_at, drop_at, drop-drop}
+use Rattle.std.specs.Int.{w16, w32, to_le_bytes}
+use Rattle.std.proofs.lemmas.List.{take-replicate}
+use Rattle.block.specs.Field.{with_two, with_four}
 use Rattle.block.specs.Write.{written}
 use Rattle.block.proofs.Says.{lt_or_ge}
 
@@ -56,36 +60,50 @@ module _ {A : Type 0} where
       ∙ ap (λ (x : List A). a ++ (vs ++ x))
       (ap (drop (at + length vs)) (sym (append_assoc a m b)) ∙ drop_at (a ++ m) b (at + length vs) (simp length-append (omega arith)))
 
--- a loop that writes one byte a turn: what is left to write from byte i on
-module _ (at i : ℕ) (vs l : List ℕ) where
-  pub write_step : i < length vs → written (at + (i + 1)) (drop (i + 1) vs) (set l (at + i) (get_or vs i 0)) ≡ written (at + i) (drop i vs) l
-  write_step h =
-      let f : at + i + 1 ≡ at + (i + 1) = omega arith in
-      sym (ap (λ (x : List ℕ). written (at + i) x l) (drop-cons vs i 0 h)
-      ∙ written_one (at + i) (get_or vs i 0) (drop (suc i) vs) l
-      ∙ ap (λ (k : ℕ). written k (drop (suc i) vs) (set l (at + i) (get_or vs i 0))) f
-      ∙ ap (λ (k : ℕ). written (at + (i + 1)) (drop k vs) (set l (at + i) (get_or vs i 0))) (sym (add-one i)))
+  -- of a run that reaches past the end, what fits; k is n, as the code takes it from its two ends
+  pub written_fits : (at n : ℕ) (vs l : List A) {k : ℕ} → k ≡ n → at ≤ length l → n ≡ min (length vs) (length l - at) → put_mid at k l (take n vs) ≡ written at vs l
+  written_fits at n vs l {k} e h f =
+      let fits : length (take n vs) ≡ n = omega (arith, length-take n vs) in
+      rw (e, drop-drop n at l)
+      (sym (ap (λ (x : List A). written at x l) (sym (take-append-drop n vs))
+      ∙ written_both at (take n vs) (drop n vs) l
+      ∙ rest fits
+      ∙ written_mid at (take n vs) l (omega arith)
+      ∙ ap (λ (j : ℕ). take at l ++ (take n vs ++ drop (at + j) l)) fits))
+    where
+      rest : length (take n vs) ≡ n → written (at + length (take n vs)) (drop n vs) (written at (take n vs) l) ≡ written at (take n vs) l
+      rest fits =
+          elim (lt_or_ge n (length vs)) [
+            | inl g ↦ written_past (at + length (take n vs)) (drop n vs) (written at (take n vs) l) (omega (arith, length-written at (take n vs) l))
+            | inr g ↦ rw (drop_of_length-le vs {i = n} g) (written_none (at + length (take n vs)) (written at (take n vs) l))
+          ]
 
-  pub write_done : min (length vs) (length l - at) ≤ i → written (at + i) (drop i vs) l ≡ l
-  write_done h =
-      elim (lt_or_ge i (length vs)) [
-        | inl g ↦ written_past (at + i) (drop i vs) l (omega arith)
-        | inr g ↦ rw (drop_of_length-le vs {i = i} g) (written_none (at + i) l)
+-- zeros up to before `to`, or to the end
+module _ (from to : ℕ) (l : List ℕ) where
+  pub cleared : (end : ℕ) {zeros : List ℕ} → end ≡ min to (length l) → from < end → zeros ≡ replicate (end - from) 0 → put_mid from (end - from) l zeros ≡ written from (replicate (to - from) 0) l
+  cleared end e h z =
+      let le : end - from ≤ to - from = omega arith in
+      rw (z, ← take-replicate {X = ℕ} (end - from) (to - from) 0 le)
+      (written_fits from (end - from) (replicate (to - from) 0) l refl (omega arith) (omega (arith, length-replicate {A = ℕ} (to - from) 0)))
+
+  pub clear_none : min to (length l) ≤ from → l ≡ written from (replicate (to - from) 0) l
+  clear_none h =
+      elim (lt_or_ge from to) [
+        | inl g ↦ sym (written_past from (replicate (to - from) 0) l (omega arith))
+        | inr g ↦ (let e : to - from ≡ 0 = omega arith in sym (ap (λ (k : ℕ). written from (replicate k 0) l) e ∙ written_none from l))
       ]
 
-pub write_all : (at : ℕ) (vs l : List ℕ) → written (at + 0) (drop 0 vs) l ≡ written at vs l
-write_all at vs l = rw (add-zero at)
+-- the bytes of a number, low byte first
+module _ (k v : ℕ) (l : List ℕ) where
+  pub two_written : v < 65_536 → written k (to_le_bytes w16 v) l ≡ with_two l k v
+  unfolding written
+  two_written h =
+      let e : v / 256 % 256 ≡ v / 256 = omega arith in
+      rw e
 
--- a loop that writes zeros up to `to`
-module _ (i to : ℕ) (l : List ℕ) where
-  pub clear_step : i < to → written (i + 1) (replicate (to - (i + 1)) 0) (set l i 0) ≡ written i (replicate (to - i) 0) l
-  clear_step h =
-      let e : to - i ≡ suc (to - (i + 1)) = omega arith in
-      sym (ap (λ (k : ℕ). written i (replicate k 0) l) e ∙ written_one i 0 (replicate (to - (i + 1)) 0) l)
-
-  pub clear-done : min to (length l) ≤ i → written i (replicate (to - i) 0) l ≡ l
-  clear-done h =
-      elim (lt_or_ge i to) [
-        | inl g ↦ written_past i (replicate (to - i) 0) l (omega arith)
-        | inr g ↦ (let e : to - i ≡ 0 = omega arith in ap (λ (k : ℕ). written i (replicate k 0) l) e ∙ written_none i l)
-      ]
+  pub four_written : v < 4_294_967_296 → written k (to_le_bytes w32 v) l ≡ with_four l k v
+  unfolding written
+  four_written h =
+      let e : v / 65_536 ≡ v / 256 / 256 = omega arith in
+      let f : v / 16_777_216 % 256 ≡ v / 256 / 256 / 256 = omega arith in
+      rw (e, f)

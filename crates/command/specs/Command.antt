@@ -2,7 +2,7 @@
 -- "Lines: `add SEAT SHEET HEX`, `set SEAT SHEET HEX` (edit), `del SEAT SHEET`, `cp SEAT FROM TO`, `mv SEAT FROM TO`, `put SEAT STAMP` and `up SEAT REV` (all sheets),
 -- `get REV SHEET`."
 -- Assumes nothing.
-use Rattle.std.specs.Prelude.{◌≤◌, ℕ, Bool, ◌||◌, cond, List, [], ◌∷◌, eqb, take}
+use Rattle.std.specs.Prelude.{◌≤◌, ℕ, Bool, ◌||◌, cond, List, [], ◌∷◌, eqb, take, Option as TheOption, None, Some}
 use Rattle.std.proofs.Math.Option.{Option, none, some}
 use Rattle.block.specs.Lists.{same}
 use Rattle.model.specs.Machine.{Add, Call, Commits, Copy, Delete, Edit, Move, Read, Update}
@@ -11,25 +11,25 @@ use Rattle.text.specs.Text.{bytes_or, hex_of, number_of, words}
 use Rattle.command.specs.declared.Call.{Call as TheCall}
 use Rattle.command.specs.declared.Call.TheVariants.{Add as TheAdd, Commit as TheCommit, Copy as TheCopy, Delete as TheDelete, Edit as TheEdit, Move as TheMove, Update as TheUpdate}
 use Rattle.command.specs.declared.Key.{Key}
-use Rattle.command.specs.declared.Key.TheVariants.{Add as KeyAdd, Cp, Del, Get, Mv, Other, Put, Set, Up}
+use Rattle.command.specs.declared.Key.TheVariants.{Add as KeyAdd, Cp, Del, Get, Mv, Put, Set, Up}
 use Rattle.command.specs.declared.Line.{Line}
-use Rattle.command.specs.declared.Line.TheVariants.{By, Get as GetLine, Other as OtherLine}
+use Rattle.command.specs.declared.Line.TheVariants.{By, Get as GetLine}
 
 -- a word is this text
 unfoldable pub is_word : List ℕ → List ℕ → Bool
 is_word w k = same w k
 
 -- the first word
-unfoldable pub key_of : List ℕ → Key
+unfoldable pub key_of : List ℕ → TheOption Key
 key_of w =
-    cond (is_word w (97 ∷ 100 ∷ 100 ∷ [])) KeyAdd
-    (cond (is_word w (115 ∷ 101 ∷ 116 ∷ [])) Set
-    (cond (is_word w (100 ∷ 101 ∷ 108 ∷ [])) Del
-    (cond (is_word w (99 ∷ 112 ∷ [])) Cp
-    (cond (is_word w (109 ∷ 118 ∷ [])) Mv
-    (cond (is_word w (112 ∷ 117 ∷ 116 ∷ [])) Put
-    (cond (is_word w (117 ∷ 112 ∷ [])) Up
-    (cond (is_word w (103 ∷ 101 ∷ 116 ∷ [])) Get Other)))))))
+    cond (is_word w (97 ∷ 100 ∷ 100 ∷ [])) (Some KeyAdd)
+    (cond (is_word w (115 ∷ 101 ∷ 116 ∷ [])) (Some Set)
+    (cond (is_word w (100 ∷ 101 ∷ 108 ∷ [])) (Some Del)
+    (cond (is_word w (99 ∷ 112 ∷ [])) (Some Cp)
+    (cond (is_word w (109 ∷ 118 ∷ [])) (Some Mv)
+    (cond (is_word w (112 ∷ 117 ∷ 116 ∷ [])) (Some Put)
+    (cond (is_word w (117 ∷ 112 ∷ [])) (Some Up)
+    (cond (is_word w (103 ∷ 101 ∷ 116 ∷ [])) (Some Get) None)))))))
 
 -- "`put SEAT STAMP` and `up SEAT REV` (all sheets)"
 abbrev pub all_sheets : ℕ
@@ -57,10 +57,10 @@ three Mv a b = none
 three Put a b = seated a (Commits b all_sheets)
 three Up a b = seated a (Update all_sheets b)
 three Get a b = some (turn 1 (Read a b))
-three Other a b = none
 
-abbrev pub three_of : Key → Option ℕ → Option ℕ → Option Turn
-three_of k x y = given x (λ a. given y (λ b. three k a b))
+abbrev pub three_of : TheOption Key → Option ℕ → Option ℕ → Option Turn
+three_of None x y = none
+three_of (Some k) x y = given x (λ a. given y (λ b. three k a b))
 
 -- a line of four words, the last of them as a number and as HEX
 abbrev pub four : Key → ℕ → ℕ → Option ℕ → Option (List ℕ) → Option Turn
@@ -72,10 +72,10 @@ four Mv a b z h = given z (λ e. seated a (Move b e))
 four Put a b z h = none
 four Up a b z h = none
 four Get a b z h = none
-four Other a b z h = none
 
-abbrev pub four_of : Key → Option ℕ → Option ℕ → Option ℕ → Option (List ℕ) → Option Turn
-four_of k x y z h = given x (λ a. given y (λ b. four k a b z h))
+abbrev pub four_of : TheOption Key → Option ℕ → Option ℕ → Option ℕ → Option (List ℕ) → Option Turn
+four_of None x y z h = none
+four_of (Some k) x y z h = given x (λ a. given y (λ b. four k a b z h))
 
 -- "Any other line prints `?`": it is no call
 unfoldable pub turn_of : List (List ℕ) → Option Turn
@@ -101,10 +101,10 @@ call_in (TheMove i j) l = Move i j
 call_in (TheCommit stamp) l = Commits stamp all_sheets
 call_in (TheUpdate R) l = Update all_sheets R
 
-abbrev pub turn_in : Line → List ℕ → Option Turn
-turn_in (By k c) l = some (turn k (call_in c l))
-turn_in (GetLine R i) l = some (turn 1 (Read R i))
-turn_in OtherLine l = none
+abbrev pub turn_in : TheOption Line → List ℕ → Option Turn
+turn_in (Some (By k c)) l = some (turn k (call_in c l))
+turn_in (Some (GetLine R i)) l = some (turn 1 (Read R i))
+turn_in None l = none
 
 -- the bytes lie within a buffer of m bytes, and the seat is 1 or 2
 abbrev pub CallFits : TheCall → ℕ → Type 0
@@ -116,10 +116,10 @@ CallFits (TheMove i j) m = Unit {0}
 CallFits (TheCommit stamp) m = Unit {0}
 CallFits (TheUpdate R) m = Unit {0}
 
-abbrev pub LineFits : Line → ℕ → Type 0
-LineFits (By k c) m = (1 ≤ k) × (k ≤ 2) × CallFits c m
-LineFits (GetLine R i) m = Unit {0}
-LineFits OtherLine m = Unit {0}
+abbrev pub LineFits : TheOption Line → ℕ → Type 0
+LineFits (Some (By k c)) m = (1 ≤ k) × (k ≤ 2) × CallFits c m
+LineFits (Some (GetLine R i)) m = Unit {0}
+LineFits None m = Unit {0}
 
 -- the bytes that the code leaves in the buffer: those of a fourth and last word that is HEX
 unfoldable pub fourth_of : List (List ℕ) → List ℕ

@@ -11,6 +11,8 @@ use lib.Dec.{eqb, leb}
 use lib.ListN.{get_or, length, length-append, length-map, length-take, take}
 use lib.Seq.{take_all}
 use Rattle.block.specs.Write.{written}
+use Rattle.std.specs.Prelude.{Err, Ok}
+use Rattle.model.specs.declared.Refusal.TheVariants.{NoRoom, NothingPending}
 use Rattle.model.specs.Blocks.{Block, Line, bytes_at, commit, content, fields_of}
 use Rattle.model.specs.Calls.{commit_writes, side_in, store_with, written_from}
 use Rattle.model.specs.Codec.{joined}
@@ -38,10 +40,9 @@ use Rattle.laws.proofs.Writing.{Blocks, Sources, content-count, front-blanks, ho
 use Rattle.commits.proofs.Entries.{Agrees, bytes_are, row_is, size_at}
 use Rattle.commits.specs.Outcome.{Answered, Asked, RightAt}
 use Rattle.commits.specs.Plan.{Planned, row_of, rows_from}
-use Rattle.commits.specs.declared.Outcome.TheVariants.{Done, NoRoom, Nothing, Stopped}
+use Rattle.commits.specs.declared.Outcome.TheVariants.{Done, Stopped}
 use Rattle.writer.proofs.Joins.{Carries, blocks_new, contents_new, written-commit}
-use Rattle.writer.proofs.Lines.{length_from}
-use Rattle.writer.specs.Blocks.{Writable, Wrote, commit_blocks, contents_by, lines_from, sheet_in}
+use Rattle.writer.specs.Blocks.{Writable, Wrote, commit_blocks, contents_by, line_in, lines_in, sheet_in}
 use Rattle.writer.specs.declared.Line.{Line as TheLine}
 
 -- ---- the rows, the sources and the changes of the chosen entries
@@ -180,51 +181,51 @@ module _ (store copy : Bytes) (used revision seat mask : ℕ) (changed places : 
 
   -- the plan that was made is that of the machine's commit
   module _ (ls : List TheLine) (m after : ℕ) (P : Planned (rows_from (row_of copy changed places) mask 0 32) used ls m after) where
-    lines_are : lines_from ls 0 m ≡ lines_for 0 (used_of store) (map (plan_of look (used_of store) 0 tables) new)
+    lines_are : lines_in (take m ls) ≡ lines_for 0 (used_of store) (map (plan_of look (used_of store) 0 tables) new)
     lines_are = P.lines ∙ ap₂ (lines_for 0) Q.uses rows_are
 
-    m_is : m ≡ total count new
-    m_is = sym (length_from ls 0 m) ∙ ap length lines_are ∙ lines-count
+    m_is : length (take m ls) ≡ total count new
+    m_is = sym (length-map (take m ls) line_in) ∙ ap length lines_are ∙ lines-count
 
     after_is : after ≡ used_of store + total (content_of h) new
     after_is = P.after ∙ ap₂ (λ (u k : ℕ). u + k) Q.uses (ap freshes rows_are ∙ blocks-count)
 
-    something : (m ≡ 0 → ⊥) → nothing_chosen d mask ≡ false
+    something : (length (take m ls) ≡ 0 → ⊥) → nothing_chosen d mask ≡ false
     something ne = none-chosen h mask 0 d.entries ∙ ne_eqb (total count new) 0 (λ z. ne (m_is ∙ z))
 
     roomy : after < length store / 512 → no_room d mask ≡ false
     roomy g = le-ltb (block_count store) (used_of store + blocks_for h new) (omega (arith, after_is))
 
-    contents-count : length (contents_by (sheet_in copy) used (lines_from ls 0 m)) ≡ total (content_of h) new
+    contents-count : length (contents_by (sheet_in copy) used (lines_in (take m ls))) ≡ total (content_of h) new
     contents-count =
         ap₂ (λ (u : ℕ) (x : List Line). length (contents_by (sheet_in copy) u x)) Q.uses lines_are
         ∙ ap length (contents_new bs h laid.lays (new_commit d 0 mask) (sheet_in copy) carried)
         ∙ length-contents new (map (plan_of look (used_of store) 0 tables) new) (length-map new (plan_of look (used_of store) 0 tables)) ∙ blocks-count
 
     -- the writing may be asked
-    pub may_write : after < length store / 512 → Writable store used revision ls m copy
+    pub may_write : after < length store / 512 → Writable store used revision (take m ls) copy
     may_write g =
         record {
           small = omega (arith, Q.next, short);
-          tells = record { few = P.few; acts = P.acts };
-          sourced = record { whole = may_plan.0; sized = size_at copy (seat_of copy) d.entries seen.copied; few = P.few; named = P.named };
+          few = omega (arith, P.few, length-take m ls);
+          sourced = record { whole = may_plan.0; sized = size_at copy (seat_of copy) d.entries seen.copied; named = P.named };
           room = omega (arith, contents-count, after_is, Q.uses);
         }
 
     -- THE STATEMENTS: each way that it ends is the machine's answer
     module _ (stamp n : ℕ) where
-      pub says_nothing : m ≡ 0 → Answered store copy store stamp mask n Nothing
+      pub says_nothing : length (take m ls) ≡ 0 → Answered store copy store stamp mask n (Err NothingPending)
       says_nothing z =
           let e : nothing_chosen d mask ≡ true = none-chosen h mask 0 d.entries ∙ eq-eqb (total count new) 0 (sym m_is ∙ z) in
           record { says = rw e; bytes = rw e }
 
-      pub says-no_room : (m ≡ 0 → ⊥) → length store / 512 ≤ after → Answered store copy store stamp mask n NoRoom
+      pub says-no_room : (length (take m ls) ≡ 0 → ⊥) → length store / 512 ≤ after → Answered store copy store stamp mask n (Err NoRoom)
       says-no_room ne g =
           let e : no_room d mask ≡ true = lt-ltb (block_count store) (used_of store + blocks_for h new) (omega (arith, after_is)) in
           record { says = rw (something ne, e); bytes = rw (something ne, e) }
 
       abbrev blocks : List Block
-      blocks = commit_blocks (sheet_in copy) used revision seat stamp (lines_from ls 0 m)
+      blocks = commit_blocks (sheet_in copy) used revision seat stamp (lines_in (take m ls))
 
       -- the blocks are those that the machine's commit writes, k + 1 of them
       writes_are : blocks ≡ commit_writes store copy stamp mask
@@ -234,12 +235,12 @@ module _ (store copy : Bytes) (used revision seat mask : ℕ) (changed places : 
       size : length blocks ≡ blocks_for h new
       unfolding commit_blocks
       size =
-          let cs = contents_by (sheet_in copy) used (lines_from ls 0 m) in
-          let one : List Block = commit revision seat stamp (lines_from ls 0 m) ∷ [] in
+          let cs = contents_by (sheet_in copy) used (lines_in (take m ls)) in
+          let one : List Block = commit revision seat stamp (lines_in (take m ls)) ∷ [] in
           omega (arith, length-append (map (content revision) cs) one, length-map cs (content revision), contents-count)
 
-      module _ (store' : Bytes) (r : ℕ) (ne : m ≡ 0 → ⊥) (g : after < length store / 512) (W : Wrote store store' used r (take n blocks)) where
-        pub says-stopped : r ≤ after → Answered store copy store' stamp mask n Stopped
+      module _ (store' : Bytes) (r : ℕ) (ne : length (take m ls) ≡ 0 → ⊥) (g : after < length store / 512) (W : Wrote store store' used r (take n blocks)) where
+        pub says-stopped : r ≤ after → Answered store copy store' stamp mask n (Ok Stopped)
         says-stopped l =
             let w : leb (length (commit_writes store copy stamp mask)) n ≡ false =
             lt-leb (length (commit_writes store copy stamp mask)) n (omega (arith, ap length writes_are, size, W.count, length-take n blocks, after_is, Q.uses)) in
@@ -247,7 +248,7 @@ module _ (store copy : Bytes) (used revision seat mask : ℕ) (changed places : 
             W.bytes ∙ ap₂ (λ (u : ℕ) (x : List Block). written (512 * u) (joined fields_of (take n x)) store) Q.uses writes_are in
             record { says = rw (something ne, roomy g, w); bytes = rw (something ne, roomy g, w) e }
 
-        pub says-done : after < r → Answered store copy store' stamp mask n (Done r)
+        pub says-done : after < r → Answered store copy store' stamp mask n (Ok (Done r))
         says-done l =
             let c = new_commit d stamp mask in
             let many : length blocks ≤ n = omega (arith, size, W.count, length-take n blocks, after_is, Q.uses) in
@@ -261,4 +262,4 @@ module _ (store copy : Bytes) (used revision seat mask : ℕ) (changed places : 
             W.bytes ∙ ap (λ (x : List Block). written (512 * used) (joined fields_of x) store) whole
             ∙ (λ x. written (512 * Q.uses x) (joined fields_of (commit_blocks (sheet_in copy) (Q.uses x) (Q.next x) (Q.by x) stamp (lines_are x))) (sym (laid.bytes ∙ bare) x))
             ∙ written-commit bs h laid.lays c (sheet_in copy) carried (omega (arith, all, k, after_is)) in
-            record { says = rw (something ne, roomy g, w) (ap Done u); bytes = rw (something ne, roomy g, w) e }
+            record { says = rw (something ne, roomy g, w) (ap (λ k. Ok (Done k)) u); bytes = rw (something ne, roomy g, w) e }

@@ -1,5 +1,4 @@
 -- The laws on the inner commit.
-pub mod Rows
 pub mod Making
 pub mod Entries
 pub mod Join

@@ -1,7 +1,7 @@
 -- What the inner commit asks and what it answers, in the machine's words: refusals 10 and 13, the store with the new commit, or with the first n blocks of it. Refusals 1 to 7
 -- and 11 are the caller's.
 -- Assumes nothing.
-use Rattle.std.specs.Prelude.{◌+◌, ◌<◌, suc, ℕ, Bool, cond, not, true, List, [], ◌∷◌, ◌≡◌, eqb, leb, get_or, length, take}
+use Rattle.std.specs.Prelude.{◌+◌, ◌<◌, suc, ℕ, Bool, cond, not, true, List, [], ◌∷◌, ◌≡◌, eqb, leb, get_or, length, take, Result, Ok, Err}
 use Rattle.model.specs.Calls.{commit_writes, side_in, store_with, written_from}
 use Rattle.model.specs.Entry.{Entry, added, copied, deleted, empty, modified, normal}
 use Rattle.model.specs.History.{Bytes, is_bytes, last, sheet}
@@ -10,8 +10,10 @@ use Rattle.model.specs.Refusals.{no_room, nothing_chosen}
 use Rattle.model.specs.Shows.{Accepted}
 use Rattle.model.specs.Store.{block_used, store_history, tail_of, used_of}
 use Rattle.model.specs.WorkCopy.{seat_of}
+use Rattle.model.specs.declared.Refusal.{Refusal}
+use Rattle.model.specs.declared.Refusal.TheVariants.{NoRoom, NothingPending}
 use Rattle.commits.specs.declared.Outcome.{Outcome}
-use Rattle.commits.specs.declared.Outcome.TheVariants.{Done, NoRoom, Nothing, Stopped}
+use Rattle.commits.specs.declared.Outcome.TheVariants.{Done, Stopped}
 
 -- what the flag and the place of sheet i's entry have to say: whether a normal entry is modified, and whether "copies whose bytes differ from the source's at the source
 -- revision" is of this one; the block that the source uses
@@ -42,11 +44,12 @@ abbrev pub enough : Bytes → Bytes → ℕ → ℕ → ℕ → Bool
 enough store copy stamp mask n = leb (length (commit_writes store copy stamp mask)) n
 
 -- refusal 10, refusal 13, U + k + 1, or stopped
-abbrev pub outcome_in : Bytes → Bytes → ℕ → ℕ → ℕ → Outcome
+abbrev pub outcome_in : Bytes → Bytes → ℕ → ℕ → ℕ → Result Outcome Refusal
 outcome_in store copy stamp mask n =
     let d = side_in store copy in
-    cond (nothing_chosen d mask) Nothing
-    (cond (no_room d mask) NoRoom (cond (enough store copy stamp mask n) (Done (d.used + blocks_for d.history (commit_changes d.history mask d.entries))) Stopped))
+    cond (nothing_chosen d mask) (Err NothingPending)
+    (cond (no_room d mask) (Err NoRoom)
+    (cond (enough store copy stamp mask n) (Ok (Done (d.used + blocks_for d.history (commit_changes d.history mask d.entries)))) (Ok Stopped)))
 
 -- the store's bytes then
 abbrev pub store_in : Bytes → Bytes → ℕ → ℕ → ℕ → Bytes
@@ -57,6 +60,6 @@ store_in store copy stamp mask n =
     (cond (enough store copy stamp mask n) (store_with store (new_commit d stamp mask ∷ [])) (written_from store (take n (commit_writes store copy stamp mask)))))
 
 -- the answer, and what is left in the store
-pub record Answered (store copy store' : Bytes) (stamp mask n : ℕ) (r : Outcome) : Type 0 where
+pub record Answered (store copy store' : Bytes) (stamp mask n : ℕ) (r : Result Outcome Refusal) : Type 0 where
   pub says : r ≡ outcome_in store copy stamp mask n
   pub bytes : store' ≡ store_in store copy stamp mask n

@@ -1,12 +1,15 @@
 -- How the chosen entries of a working copy are written: a row of the plan for each of the 32 sheets, by the bytes of its entry.
 -- Assumes nothing.
-use Rattle.std.specs.Prelude.{◌*◌, ◌+◌, ◌<◌, ◌≤◌, suc, zero, ℕ, cond, List, [], ◌∷◌, ◌≡◌, eqb, get_or}
+use Rattle.std.specs.Prelude.{◌*◌, ◌+◌, ◌<◌, ◌≤◌, suc, zero, ℕ, cond, List, [], ◌∷◌, ◌≡◌, eqb, get_or, take, All, Option, Some, None}
 use Rattle.block.specs.Field.{two_at}
-use Rattle.model.specs.Blocks.{Line, action_of, adds, changes, copies, deletes}
+use Rattle.model.specs.Blocks.{Action, adds, changes, copies, deletes}
 use Rattle.model.specs.Machine.{chosen}
-use Rattle.model.specs.Writing.{Plan, fresh, line_of, lines_for, shared, skip}
+use Rattle.model.specs.Writing.{Plan, fresh, lines_for, shared, skip}
 use Rattle.laws.proofs.Writer.{freshes}
-use Rattle.writer.specs.Blocks.{lines_from, no_line}
+use Rattle.commits.specs.declared.Row.{Row}
+use Rattle.writer.specs.Blocks.{lines_in}
+use Rattle.writer.specs.declared.Action.{Action as TheAction}
+use Rattle.writer.specs.declared.Action.TheVariants.{Add, Change, Copy, Delete}
 use Rattle.writer.specs.declared.Line.{Line as TheLine}
 
 -- "added gives add (1), modified change (2), deleted delete (3), copied copy (4)": `changed` is 0 where an entry's bytes are those of its base or source, and `place` is the
@@ -28,28 +31,22 @@ unfoldable pub rows_from : (ℕ → Plan) → ℕ → ℕ → ℕ → List Plan
 rows_from f mask i zero = []
 rows_from f mask i (suc d) = cond (chosen mask i) (f i) skip ∷ rows_from f mask (suc i) d
 
--- the line of a row, if it has one; action 0 is none
-unfoldable pub line_if : ℕ → ℕ → ℕ → ℕ → ℕ → List Line
-line_if sheet action block source revision = cond (eqb action 0) [] (line_of sheet (action_of action) block source revision ∷ [])
+-- the action as the code has it
+abbrev pub action_as : Action → TheAction
+action_as adds = Add
+action_as changes = Change
+action_as deletes = Delete
+action_as copies = Copy
 
--- a row has these numbers
-pub record RowHas (action block source revision after a b s v n : ℕ) : Type 0 where
-  pub is_action : action ≡ a
-  pub is_block : block ≡ b
-  pub is_source : source ≡ s
-  pub is_revision_holds : revision ≡ v
-  pub is_after : after ≡ n
-
--- a row as the code has it, where block p is the next
-pub record RowIs (q : Plan) (sheet p action block source revision after : ℕ) : Type 0 where
-  pub line : line_if sheet action block source revision ≡ lines_for sheet p (q ∷ [])
-  pub next : after ≡ p + freshes (q ∷ [])
-  pub act : action ≤ 4
+-- a row as the code has it, where block p is the next: the line of sheet i, and the block after it; none where the sheet is skipped
+abbrev pub row_as : Plan → ℕ → ℕ → Option Row
+row_as skip i p = None
+row_as (fresh a s v) i p = Some (record { line = record { sheet = i; action = action_as a; block = p; source = s; revision = v }; next = p + 1 })
+row_as (shared a q s v) i p = Some (record { line = record { sheet = i; action = action_as a; block = q; source = s; revision = v }; next = p })
 
 -- the first n lines are those of the rows, from block `used` on; `next` is the first block after their contents
 pub record Planned (rows : List Plan) (used : ℕ) (ls : List TheLine) (n next : ℕ) : Type 0 where
-  pub lines : lines_from ls 0 n ≡ lines_for 0 used rows
+  pub lines : lines_in (take n ls) ≡ lines_for 0 used rows
   pub after : next ≡ used + freshes rows
   pub few : n ≤ 32
-  pub acts : (j : ℕ) → j < n → (1 ≤ (get_or ls j no_line).action) × ((get_or ls j no_line).action ≤ 4)
-  pub named : (j : ℕ) → j < n → (get_or ls j no_line).sheet < 32
+  pub named : All (λ l. l.sheet < 32) (take n ls)

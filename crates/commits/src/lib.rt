@@ -4,139 +4,90 @@
 
 ghost use Rattle.std.specs.Prelude.{◌<◌, ◌≤◌, ◌≡◌, length};
 ghost use Rattle.commits.specs.Outcome.{Answered, Asked};
-ghost use Rattle.commits.specs.Plan.{Planned, RowHas, RowIs, row_of, rows_from};
+ghost use Rattle.commits.specs.Plan.{Planned, row_as, row_of, rows_from};
 
-// How an entry is written: its line but for the sheet, action 0 where it has none, and the next block after it.
+use model::Refusal;
+use writer::{Action, Line};
+
+// How an entry is written: its line, and the next block after it.
 #[derive(Clone, Copy)]
 struct Row {
-    action: u8,
-    block: u16,
-    source: u8,
-    revision: u16,
+    line: Line,
     next: usize,
 }
 
-// A row of these numbers.
-fn row_with(action: u8, block: u16, source: u8, revision: u16, next: usize) -> Row
-    ensures { RowHas result.action result.block result.source result.revision result.next action block source revision next }
+// How the entry of a sheet is written, where block `next` is the next one; none where it has no change. By its state: a normal entry (1) is a change where it is modified,
+// an added one (2) an add, a deleted one (3) a delete, and a copied one (4) a copy, which shares its source's block where the bytes are the same.
+#[tactic(auto, unfolding(crate::specs::Plan::row_of, crate::specs::Plan::plan_as))]
+fn row_of(copy: &[u8], changed: &[u8], places: &[u16], sheet: usize, next: usize) -> Option<Row>
+    requires { (length copy.now ≡ 16896) × ((length changed.now ≡ 32) × ((length places.now ≡ 32) × ((sheet < 32) × (next < 65536)))) }
+    ensures { result ≡ row_as (row_of copy.now changed.now places.now sheet) sheet next }
 {
-    Row {
+    let at = 512 * (sheet + 1);
+    let own = next as u16;
+    let flag = changed[sheet];
+    let (action, block, next) = match copy[at + 1] {
+        1 if flag != 0 => (Action::Change, own, next + 1),
+        2 => (Action::Add, own, next + 1),
+        3 => (Action::Delete, 0, next),
+        4 if flag == 0 => (Action::Copy, places[sheet], next),
+        4 => (Action::Copy, own, next + 1),
+        _ => return None,
+    };
+    let (source, revision) = match action {
+        Action::Copy => (copy[at + 6], block::get16(copy, at + 8)),
+        _ => (0, 0),
+    };
+    let sheet = sheet as u8;
+    let line = Line {
+        sheet,
         action,
         block,
         source,
         revision,
-        next,
-    }
-}
-
-// How the entry of a sheet is written, where block `next` is the next one.
-fn row_of<'a>(
-    copy: &'a [u8],
-    changed: &'a [u8],
-    places: &'a [u16],
-    sheet: usize,
-    next: usize,
-) -> Row
-    requires { (length copy.now ≡ 16896) × ((length changed.now ≡ 32) × ((length places.now ≡ 32) × ((sheet < 32) × (next < 65536)))) }
-    ensures { RowIs (row_of copy.now changed.now places.now sheet) sheet next result.action result.block result.source result.revision result.next }
-{
-    let at = 512 * (sheet + 1);
-    let state = copy[at + 1];
-    let source = copy[at + 6];
-    let revision = block::get16(copy, at + 8);
-    let own = next as u16;
-    let flag = changed[sheet];
-    let place = places[sheet];
-    if state == 2 {
-        return row_with(1, own, 0, 0, next + 1);
-    }
-    if state == 3 {
-        return row_with(3, 0, 0, 0, next);
-    }
-    if state == 4 {
-        if flag == 0 {
-            return row_with(4, place, source, revision, next);
-        }
-        return row_with(4, own, source, revision, next + 1);
-    }
-    if state != 1 {
-        return row_with(0, 0, 0, 0, next);
-    }
-    if flag != 0 {
-        return row_with(2, own, 0, 0, next + 1);
-    }
-    row_with(0, 0, 0, 0, next)
+    };
+    Some(Row { line, next })
 }
 
 // The lines of a commit, how many there are, and the block that follows its content blocks.
 #[derive(Clone, Copy)]
 struct Plan {
-    lines: [writer::Line; 32],
+    lines: [Line; 32],
     count: usize,
     next: usize,
 }
 
 // The lines of the chosen sheets, by rising sheet number.
-fn make_plan<'a>(
-    mask: u32,
-    used: usize,
-    copy: &'a [u8],
-    changed: &'a [u8],
-    places: &'a [u16],
-) -> Plan
+fn make_plan(mask: u32, used: usize, copy: &[u8], changed: &[u8], places: &[u16]) -> Plan
     requires { (length copy.now ≡ 16896) × ((length changed.now ≡ 32) × ((length places.now ≡ 32) × (used ≤ 4096))) }
     ensures { Planned (rows_from (row_of copy.now changed.now places.now) mask 0 32) used result.lines result.count result.next }
 {
-    let none = writer::Line {
-        sheet: 0,
-        action: 0,
-        block: 0,
-        source: 0,
-        revision: 0,
-    };
-    let mut lines = [none; 32];
-    let mut m = mask;
-    let mut left = masks::count(mask);
-    let mut n = 0;
+    let mut lines = [Line::default(); 32];
+    let mut count = 0;
     let mut next = used;
-    while left != 0 {
-        let k = u32::trailing_zeros(m);
+    let mut m = mask;
+    'chosen: for _ in 0..masks::count(mask) {
+        let sheet = m.trailing_zeros();
         m &= m - 1;
-        left -= 1;
-        let row = row_of(copy, changed, places, k as usize, next);
-        let action = row.action;
-        if action == 0 {
-            continue;
+        if let Some(row) = row_of(copy, changed, places, sheet as usize, next) {
+            lines[count] = row.line;
+            count += 1;
+            next = row.next;
         }
-        lines[n] = writer::Line {
-            sheet: k as u8,
-            action,
-            block: row.block,
-            source: row.source,
-            revision: row.revision,
-        };
-        next = row.next;
-        n += 1;
     }
-    Plan {
-        lines,
-        count: n,
-        next,
-    }
+    Plan { lines, count, next }
 }
 
-// The blocks in use afterwards; refusal 10; refusal 13; that it stopped.
+// The blocks in use afterwards; that it stopped.
 #[derive(Clone, Copy)]
 pub enum Outcome {
     Done(usize),
-    Nothing,
-    NoRoom,
     Stopped,
 }
 
-// Commits the chosen entries and stops after n block writes: the number of blocks in use then, or why not. `changed` is 0 for an entry whose bytes are its base's or its
-// source's; `places` has the block that a copied entry's source uses.
-pub fn commit_chosen<'a>(
+// Commits the chosen entries and stops after n block writes: the number of blocks in use then, or refusal 10 or 13. `changed` is 0 for an entry whose bytes are its
+// base's or its source's; `places` has the block that a copied entry's source uses.
+pub fn commit_chosen(
     store: &mut [u8],
     n: usize,
     used: usize,
@@ -144,26 +95,24 @@ pub fn commit_chosen<'a>(
     seat: u8,
     stamp: u32,
     mask: u32,
-    copy: &'a [u8],
-    changed: &'a [u8],
-    places: &'a [u16],
-) -> Outcome
+    copy: &[u8],
+    changed: &[u8],
+    places: &[u16],
+) -> Result<Outcome, Refusal>
     requires { Asked store.old copy.now used revision seat mask changed.now places.now }
     ensures { Answered store.old copy.now store.new stamp mask n result }
 {
-    let plan = make_plan(mask, used, copy, changed, places);
-    let m = plan.count;
-    let next = plan.next;
-    if m == 0 {
-        return Outcome::Nothing;
+    let Plan { lines, count, next } = make_plan(mask, used, copy, changed, places);
+    let lines = &lines[..count];
+    if lines.is_empty() {
+        return Err(Refusal::NothingPending);
     }
     if store.len() / 512 <= next {
-        return Outcome::NoRoom;
+        return Err(Refusal::NoRoom);
     }
-    let lines = plan.lines;
-    let end = writer::write_some(store, n, used, revision, seat, stamp, lines, m, copy);
+    let end = writer::write_some(store, n, used, revision, seat, stamp, lines, copy);
     if end <= next {
-        return Outcome::Stopped;
+        return Ok(Outcome::Stopped);
     }
-    Outcome::Done(end)
+    Ok(Outcome::Done(end))
 }

@@ -1,6 +1,7 @@
 -- A commit, through the turn record or not: what `check_to_commit` finds out, and after it that the commit is refused as the check says, refused by the record's lines, or done as the inner
 -- commit does it.
 -- Assumes nothing.
+use Rattle.std.specs.Prelude.{Err, Ok, Result}
 use Prim.Native.Nat.{◌<◌, ◌^◌, ℕ}
 use mathlib.Core.Bool.{◌&&◌, false, not, true}
 use mathlib.Core.List.{[], ◌++◌, ◌∷◌}
@@ -21,14 +22,11 @@ use Rattle.inner.proofs.Changing.{cut_by}
 use Rattle.inner.proofs.Refusing.{first-stays}
 use Rattle.entries.proofs.Checking.{check_ready, check_refused, fitting_accepted, inner_call}
 use Rattle.entries.specs.View.{check_of, inner_out}
-use Rattle.entries.specs.declared.Checked.{Checked}
-use Rattle.entries.specs.declared.Checked.TheVariants.{Ready, Refused}
 use Rattle.entries.specs.declared.View.{View}
 use Rattle.filing.proofs.Keeping.{inner_cut_lem}
 use Rattle.filing.specs.Filed.{inner_cut}
 use Rattle.store.proofs.Opening.{open_refused}
 use Rattle.store.specs.Opened.{open_of}
-use Rattle.store.specs.declared.Opened.TheVariants.{Refused as NotOpen}
 use Rattle.turns.proofs.Calls.{holder_is}
 use Rattle.turns.proofs.InTurn.{by_holder, none-chosen, not_holding, out_of_form}
 use Rattle.turns.specs.InTurn.{in_turn_call, in_turn_lines}
@@ -39,27 +37,27 @@ use Rattle.engine.specs.MayCommit.{MayCommit, commit_lines}
 module _ (store copy : Bytes) where
   -- ---- the check
 
-  pub not_open : (k : Refusal) → open_of store ≡ NotOpen k → MayCommit store copy (Refused k)
+  pub not_open : (k : Refusal) → open_of store ≡ Err k → MayCommit store copy (Err k)
   not_open k e = first-stays (store_conditions store) (14 when not (eqb (tail_of store) 0) ∷ copy_conditions store copy) (number_of k) (open_refused store k e)
 
-  pub checked_so : (c : Checked) → not (eqb (tail_of store) 0) ≡ false → check_of store copy ≡ c → MayCommit store copy c
-  checked_so (Refused k) t e = clear_mid (store_conditions store) (14 when not (eqb (tail_of store) 0) ∷ []) (copy_conditions store copy) (t, tt) ∙ check_refused store copy k e
-  checked_so (Ready v) t e = (check_ready store copy v e, untailed_so (side_in store copy) 0 0 (t, tt))
+  pub checked_so : (c : Result View Refusal) → not (eqb (tail_of store) 0) ≡ false → check_of store copy ≡ c → MayCommit store copy c
+  checked_so (Err k) t e = clear_mid (store_conditions store) (14 when not (eqb (tail_of store) 0) ∷ []) (copy_conditions store copy) (t, tt) ∙ check_refused store copy k e
+  checked_so (Ok v) t e = (check_ready store copy v e, untailed_so (side_in store copy) 0 0 (t, tt))
 
   -- ---- commit
 
   module _ (stamp mask n : ℕ) where
-    pub cut_checked : (k : Refusal) → MayCommit store copy (Refused k) → out (refused (number_of k)) store copy ≡ commit_cut_call store copy stamp mask n
+    pub cut_checked : (k : Refusal) → MayCommit store copy (Err k) → out (refused (number_of k)) store copy ≡ commit_cut_call store copy stamp mask n
     unfolding refusal_of
     cut_checked k e = cut_by store copy k stamp mask n (first-stays (commit_lines store copy) (conditions (side_in store copy) (CommitsCut stamp mask n)) (number_of k) e)
 
-    pub cut_done : (v : View) → MayCommit store copy (Ready v) → inner_cut store copy stamp mask n ≡ commit_cut_call store copy stamp mask n
+    pub cut_done : (v : View) → MayCommit store copy (Ok v) → inner_cut store copy stamp mask n ≡ commit_cut_call store copy stamp mask n
     cut_done v m = inner_cut_lem store copy v m.0 stamp mask n (no_tail (side_in store copy) stamp mask m.1).0
 
   -- ---- commit through the record
 
   module _ (t : TurnRecord) (stamp mask : ℕ) where
-    pub turn-checked : (k : Refusal) → MayCommit store copy (Refused k) → out (refused (number_of k)) store copy ≡ in_turn_call store copy (numbers_of t) stamp mask
+    pub turn-checked : (k : Refusal) → MayCommit store copy (Err k) → out (refused (number_of k)) store copy ≡ in_turn_call store copy (numbers_of t) stamp mask
     unfolding in_turn_call
     turn-checked k e =
         sym (ap (λ (o : Option ℕ). change_by o store copy (Commits stamp mask)) (first-stays (commit_lines store copy) (in_turn_lines (numbers_of t) (side_in store copy) stamp mask) (number_of k) e))
@@ -67,7 +65,7 @@ module _ (store copy : Bytes) where
     held_by_lem : holder (queue_of (numbers_of t)) ≡ t.holder
     held_by_lem = holder_is t.holder (t.first ∷ t.second ∷ t.third ∷ [])
 
-    module _ (v : View) (m : MayCommit store copy (Ready v)) where
+    module _ (v : View) (m : MayCommit store copy (Ok v)) where
       by_lines : {o : Option ℕ} → first_of (in_turn_lines (numbers_of t) (side_in store copy) stamp mask) ≡ o → change_by o store copy (Commits stamp mask) ≡ in_turn_call store copy (numbers_of t) stamp mask
       unfolding in_turn_call
       by_lines e =

@@ -2,6 +2,7 @@
 -- commit or the release, and clearing leads back to a store without a tail. The writes are those of `commit_cut` and `clear_cut`, and the one of `release`: what whoever calls these functions learns is taken from their own contracts
 -- (`Learnt`, in `Made`), of which no text is repeated here, and that the code meets them (`met`) stands in the same record.
 -- Assumes nothing.
+use Rattle.std.specs.Prelude.{Ok, Result}
 use Prim.Native.Nat.{◌<◌, ◌^◌, ◌≤◌, suc, zero, ℕ}
 use mathlib.Core.List.{[]}
 use mathlib.Core.Option.{none}
@@ -29,17 +30,16 @@ use Rattle.engine.proofs.Demand2.{CodeDemand2, code_demand_two}
 use Rattle.engine.proofs.Demand3.{CodeDemand3, Made, Read, code_demand_three, made_is, read_is}
 use Rattle.store.proofs.open.Reads as open-reads
 use Rattle.store.specs.declared.Header.{Header}
-use Rattle.store.specs.declared.Opened.{Opened}
-use Rattle.store.specs.declared.Opened.TheVariants.{Open}
+use Rattle.model.specs.declared.Refusal.{Refusal}
 
 -- THE STATEMENT
 
 -- what the code leaves of this store and copy, stopped after n writes and after one more: c is one of the two cut calls
 pub record Step (store copy : Bytes) (c : ℕ → Call) (n : ℕ) (before after : Bytes) : Type 0 where
-  pub answer : Answer
+  pub answer : Result Answer Refusal
   pub beside : Bytes
   pub made : Made store copy (c n) answer before beside
-  pub next-answer : Answer
+  pub next-answer : Result Answer Refusal
   pub next-beside : Bytes
   pub next-made : Made store copy (c (suc n)) next-answer after next-beside
 
@@ -70,7 +70,7 @@ pub record CodeFoundReleasing (store : Bytes) (R seat stamp : ℕ) (f : Bytes) :
   pub copy : Bytes
   pub after : Bytes
   pub beside : Bytes
-  pub answer : Answer
+  pub answer : Result Answer Refusal
   pub made : Made store copy (Release R seat stamp) answer after beside
   pub torn : Torn store after (used_of store) f
 
@@ -81,35 +81,35 @@ CodeClearings (suc k) f g = (mid : Bytes) × CodeFoundClearing f mid × CodeClea
 
 -- the store f as the code takes it: `open` accepts it, and `read_place` finds every sheet at every revision of its history
 pub record CodeAccepts (f : Bytes) : Type 0 where
-  pub opens : (κs : Lfts 1) (x x' : Bor Bytes) (r : Opened) → x.now ≡ f → open-reads.Learnt κs (x, tt) r (x', tt) → (t : Header) × (r ≡ Open t)
+  pub opens : (κs : Lfts 1) (x x' : Bor Bytes) (r : Result Header Refusal) → x.now ≡ f → open-reads.Learnt κs (x, tt) r (x', tt) → (t : Header) × (r ≡ Ok t)
   pub reads : (R i : ℕ) → R ≤ last (store_history f) → i ≤ 31 → Read f (store_history f) R i
 
 -- g was found after cut clearings of f: the code accepts it, and `clear` leaves the store of f without its tail
 pub record CodeRestored (f g : Bytes) : Type 0 where
   pub restored : Restored f g
   pub accepts : CodeAccepts g
-  pub clears : {copy store' copy' : Bytes} {r : Answer} → Made g copy Clears r store' copy' → (answer_of r ≡ done) × (store' ≡ bare_of f)
+  pub clears : {copy store' copy' : Bytes} {r : Result Answer Refusal} → Made g copy Clears r store' copy' → (answer_of r ≡ done) × (store' ≡ bare_of f)
 
 pub record CodeCutClearing (store : Bytes) : Type 0 where
-  pub starts : {copy store' copy' : Bytes} {r : Answer} → Made store copy (ClearsCut 0) r store' copy' → store' ≡ store
+  pub starts : {copy store' copy' : Bytes} {r : Result Answer Refusal} → Made store copy (ClearsCut 0) r store' copy' → store' ≡ store
   pub writes : (n : ℕ) → n < tail_of store → {copy before after : Bytes} → Step store copy ClearsCut n before after → WritesOne store (clear_place store n) before after
-  pub stops : (n : ℕ) → n < tail_of store → {copy store' copy' : Bytes} {r : Answer} → Made store copy (ClearsCut n) r store' copy' → answer_of r ≡ stopped
-  pub usual : (n : ℕ) → tail_of store ≤ n → {copy s s' t t' : Bytes} {r r' : Answer} → Made store copy (ClearsCut n) r s t → Made store copy Clears r' s' t'
+  pub stops : (n : ℕ) → n < tail_of store → {copy store' copy' : Bytes} {r : Result Answer Refusal} → Made store copy (ClearsCut n) r store' copy' → answer_of r ≡ stopped
+  pub usual : (n : ℕ) → tail_of store ≤ n → {copy s s' t t' : Bytes} {r r' : Result Answer Refusal} → Made store copy (ClearsCut n) r s t → Made store copy Clears r' s' t'
       → out (answer_of r) s t ≡ out (answer_of r') s' t'
   pub found : (k : ℕ) (g : Bytes) → CodeClearings k store g → CodeRestored store g
 
 pub record CodeCutCommit (store copy : Bytes) (stamp mask : ℕ) : Type 0 where
-  pub starts : {store' copy' : Bytes} {r : Answer} → Made store copy (CommitsCut stamp mask 0) r store' copy' → store' ≡ store
+  pub starts : {store' copy' : Bytes} {r : Result Answer Refusal} → Made store copy (CommitsCut stamp mask 0) r store' copy' → store' ≡ store
   pub writes : (n : ℕ) → n < write_count store copy stamp mask → {before after : Bytes} → Step store copy (CommitsCut stamp mask) n before after
       → WritesOne store (commit_place store copy stamp mask n) before after
   -- "its content blocks in rising order, then its commit block": the first n of them
   pub blocks : Written store copy stamp mask
-  pub leaves : (n : ℕ) → n ≤ write_count store copy stamp mask → {store' copy' : Bytes} {r : Answer} → Made store copy (CommitsCut stamp mask n) r store' copy'
+  pub leaves : (n : ℕ) → n ≤ write_count store copy stamp mask → {store' copy' : Bytes} {r : Result Answer Refusal} → Made store copy (CommitsCut stamp mask n) r store' copy'
       → store' ≡ written_from store (take n (commit_writes store copy stamp mask))
   -- "it stops after n block writes, the working copy untouched, and answers that it stopped; with n enough for all its writes it is the usual call"
-  pub stops : (n : ℕ) → n < write_count store copy stamp mask → {store' copy' : Bytes} {r : Answer} → Made store copy (CommitsCut stamp mask n) r store' copy'
+  pub stops : (n : ℕ) → n < write_count store copy stamp mask → {store' copy' : Bytes} {r : Result Answer Refusal} → Made store copy (CommitsCut stamp mask n) r store' copy'
       → (answer_of r ≡ stopped) × (copy' ≡ copy)
-  pub usual : (n : ℕ) → write_count store copy stamp mask ≤ n → {s s' t t' : Bytes} {r r' : Answer} → Made store copy (CommitsCut stamp mask n) r s t
+  pub usual : (n : ℕ) → write_count store copy stamp mask ≤ n → {s s' t t' : Bytes} {r r' : Result Answer Refusal} → Made store copy (CommitsCut stamp mask n) r s t
       → Made store copy (Commits stamp mask) r' s' t' → out (answer_of r) s t ≡ out (answer_of r') s' t'
   pub found : (f : Bytes) → CodeFoundCommitting store copy stamp mask f → FoundCommit store copy stamp mask f
   pub accepts : (f : Bytes) → CodeFoundCommitting store copy stamp mask f → CodeAccepts f
@@ -118,7 +118,7 @@ pub record CodeCutCommit (store copy : Bytes) (stamp mask : ℕ) : Type 0 where
 
 -- "W6's cut rule includes the block, a release standing or not."
 pub record CodeCutRelease (store : Bytes) (R seat stamp : ℕ) : Type 0 where
-  pub writes : {copy store' copy' : Bytes} {r : Answer} → Made store copy (Release R seat stamp) r store' copy' → WritesOne store (used_of store) store store'
+  pub writes : {copy store' copy' : Bytes} {r : Result Answer Refusal} → Made store copy (Release R seat stamp) r store' copy' → WritesOne store (used_of store) store store'
   pub found : (f : Bytes) → CodeFoundReleasing store R seat stamp f → FoundRelease store R seat stamp f
   pub accepts : (f : Bytes) → CodeFoundReleasing store R seat stamp f → CodeAccepts f
   pub restored : (f : Bytes) → CodeFoundReleasing store R seat stamp f → (k : ℕ) (g : Bytes) → CodeClearings k f g → CodeRestored f g
@@ -134,15 +134,15 @@ pub record CodeCut : Type 2 where
   -- a release that no line refuses
   pub releases : (store : Bytes) (R seat stamp : ℕ) → stamp < 2 ^ 32 → Clear (store_only_conditions store (Release R seat stamp)) → CodeCutRelease store R seat stamp
   -- a refusal comes whatever n is, and nothing is changed
-  pub refuses : {store copy s s' t t' : Bytes} {stamp mask n q : ℕ} {r r' : Answer} → Made store copy (Commits stamp mask) r s t → answer_of r ≡ refused q
+  pub refuses : {store copy s s' t t' : Bytes} {stamp mask n q : ℕ} {r r' : Result Answer Refusal} → Made store copy (Commits stamp mask) r s t → answer_of r ≡ refused q
       → Made store copy (CommitsCut stamp mask n) r' s' t' → out (answer_of r') s' t' ≡ out (refused q) store copy
-  pub keeps : {store copy s s' t t' : Bytes} {n q : ℕ} {r r' : Answer} → Made store copy Clears r s t → answer_of r ≡ refused q
+  pub keeps : {store copy s s' t t' : Bytes} {n q : ℕ} {r r' : Result Answer Refusal} → Made store copy Clears r s t → answer_of r ≡ refused q
       → Made store copy (ClearsCut n) r' s' t' → out (answer_of r') s' t' ≡ out (refused q) store copy
 
 -- THE PROOF
 
 -- the store that the code leaves is the call's
-left_is : {store copy store' copy' : Bytes} {c : Call} {r : Answer} → Made store copy c r store' copy' → store' ≡ (call store copy c).store
+left_is : {store copy store' copy' : Bytes} {c : Call} {r : Result Answer Refusal} → Made store copy c r store' copy' → store' ≡ (call store copy c).store
 left_is m = ap (λ (o : Out). o.store) (made_is m)
 
 pub found_in_lem : {store copy : Bytes} {c : ℕ → Call} {writes : ℕ} {place : ℕ → ℕ} {f : Bytes} → Cut store copy c writes place f → FoundIn (λ n. (call store copy (c n)).store) writes place f

@@ -3,6 +3,7 @@
 -- from that function's own contract (`Learnt`). That each function ends on every input, and never does anything undefined, is part of what it means that it meets its contract
 -- (`CodeDemand3`, `CodeDemand2`, and here).
 -- Assumes nothing.
+use Rattle.std.specs.Prelude.{Result}
 use Prim.Native.Nat.{◌<◌, ◌^◌, ℕ}
 use mathlib.Core.List.{[]}
 use mathlib.Core.Logic.{◌↔◌}
@@ -53,20 +54,21 @@ use Rattle.engine.proofs.create_copy.Statement as create-copy-statement
 use Rattle.engine.proofs.call.Met as call_met
 use Rattle.engine.proofs.call.Reads as call-reads
 use Rattle.engine.proofs.call.Statement as call-statement
+use Rattle.model.specs.declared.Refusal.{Refusal}
 
 -- THE STATEMENT
 
 -- a call that only looks, as code makes it: on this store and copy it answers a; of read, a panel's reading and show, the bytes that stand at the place that their companions answer
 pub data Looked : Bytes → Bytes → Call → Answer → Type 0 where
-  statuses : {i : ℕ} (κs : Lfts 1) (x y x' y' : Bor Bytes) (r : TheAnswer)
+  statuses : {i : ℕ} (κs : Lfts 1) (x y x' y' : Bor Bytes) (r : Result TheAnswer Refusal)
       → status-reads.Learnt κs (x, (y, (i, tt))) r (x', (y', (i, tt))) → Looked x.now y.now (Status i) (answer_of r)
-  shows : {i : ℕ} (κs : Lfts 1) (x y x' y' : Bor Bytes) (r : Place)
+  shows : {i : ℕ} (κs : Lfts 1) (x y x' y' : Bor Bytes) (r : Result Place Refusal)
       → show-reads.Learnt κs (x, (y, (i, tt))) r (x', (y', (i, tt))) → Looked x.now y.now (Show i) (heard x.now y.now (place_of r))
-  logs : {R i : ℕ} {copy : Bytes} (κs : Lfts 1) (x x' : Bor Bytes) (r : TheAnswer)
+  logs : {R i : ℕ} {copy : Bytes} (κs : Lfts 1) (x x' : Bor Bytes) (r : Result TheAnswer Refusal)
       → log-reads.Learnt κs (x, (R, (i, tt))) r (x', (R, (i, tt))) → Looked x.now copy (Log R i) (answer_of r)
-  reads : {R i : ℕ} {copy : Bytes} (κs : Lfts 1) (x x' : Bor Bytes) (r : Place)
+  reads : {R i : ℕ} {copy : Bytes} (κs : Lfts 1) (x x' : Bor Bytes) (r : Result Place Refusal)
       → read-reads.Learnt κs (x, (R, (i, tt))) r (x', (R, (i, tt))) → Looked x.now copy (Read R i) (heard x.now [] (place_of r))
-  panels : {R i : ℕ} {copy : Bytes} (κs : Lfts 1) (x x' : Bor Bytes) (r : Place)
+  panels : {R i : ℕ} {copy : Bytes} (κs : Lfts 1) (x x' : Bor Bytes) (r : Result Place Refusal)
       → panel-reads.Learnt κs (x, (R, (i, tt))) r (x', (R, (i, tt))) → Looked x.now copy (Panel R i) (heard x.now [] (place_of r))
 
 -- what demand 1 says of a call's answer and of the buffers that it leaves
@@ -104,13 +106,13 @@ pub record CodeDemand1 : Type 2 where
   pub create_copy_meets : (M : Type 1) → create-copy-statement.statement M
   pub call_meets : (M : Type 1) → call-statement.statement M
   -- add, edit, delete, copy, move, commit, update, revert, clear, the cut calls, and release
-  pub changes : {store copy store' copy' : Bytes} {c : Call} {r : TheAnswer} → Made store copy c r store' copy' → Answers store copy c (out (answer_of r) store' copy')
+  pub changes : {store copy store' copy' : Bytes} {c : Call} {r : Result TheAnswer Refusal} → Made store copy c r store' copy' → Answers store copy c (out (answer_of r) store' copy')
   -- status, show, log, read and panel reading, which change no buffer
   pub looks : {store copy : Bytes} {c : Call} {a : Answer} → Looked store copy c a → Answers store copy c (out a store copy)
   -- create of a store and of a copy
-  pub creates_store : (κs : Lfts 1) (x x' : MutBor Bytes) (r : TheAnswer) → create-store-reads.Learnt κs (x, tt) r (x', tt)
+  pub creates_store : (κs : Lfts 1) (x x' : MutBor Bytes) (r : Result TheAnswer Refusal) → create-store-reads.Learnt κs (x, tt) r (x', tt)
       → created_as r x'.now ≡ create_store x.now
-  pub creates_copy : (κs : Lfts 1) (x x' : MutBor Bytes) (seat seat' : ℕ) (r : TheAnswer) → create-copy-reads.Learnt κs (x, (seat, tt)) r (x', (seat', tt))
+  pub creates_copy : (κs : Lfts 1) (x x' : MutBor Bytes) (seat seat' : ℕ) (r : Result TheAnswer Refusal) → create-copy-reads.Learnt κs (x, (seat, tt)) r (x', (seat', tt))
       → created_as r x'.now ≡ create_copy x.now seat
   -- the engine as one piece: any request; of read, panel reading and show, the bytes that stand at the place that it answers
   pub requests : (κs : Lfts 3) (x y : MutBor Bytes) (z : Bor Bytes) (x' y' : MutBor Bytes) (z' : Bor Bytes) (q q' : Request) (r : Reply) → call-reads.Learnt κs (x, (y, (q, (z, tt)))) r (x', (y', (q', (z', tt))))

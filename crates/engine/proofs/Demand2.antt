@@ -2,6 +2,7 @@
 -- history." What whoever calls `store::open`, `tails::count`, `read` and `log` learns is taken from each function's own contract (`Learnt`), of which no text is repeated here, and
 -- that the code meets the contract (`met`) stands in the same record.
 -- Assumes nothing.
+use Rattle.std.specs.Prelude.{Ok, Result}
 use Prim.Native.Nat.{◌≤◌, ℕ}
 use mathlib.Core.Bool.{◌||◌, false, true}
 use mathlib.Core.List.{[]}
@@ -31,8 +32,6 @@ use Rattle.search.proofs.Finding.{block_lacks, open_asked}
 use Rattle.store.proofs.Opening.{accepted_open, open_accepted}
 use Rattle.store.specs.Opened.{open_of}
 use Rattle.store.specs.declared.Header.{Header}
-use Rattle.store.specs.declared.Opened.{Opened}
-use Rattle.store.specs.declared.Opened.TheVariants.{Open}
 use contract.Lifetimes.{Lfts}
 use Rattle.store.proofs.open.Met as open-met
 use Rattle.store.proofs.open.Reads as open-reads
@@ -46,17 +45,18 @@ use Rattle.engine.proofs.log.Statement as log-statement
 use Rattle.engine.proofs.read.Met as read-met
 use Rattle.engine.proofs.read.Reads as read-reads
 use Rattle.engine.proofs.read.Statement as read-statement
+use Rattle.model.specs.declared.Refusal.{Refusal}
 
 -- THE STATEMENT
 
 -- what `open` answers on these bytes
-pub record Opens (store : Bytes) (r : Opened) : Type 0 where
+pub record Opens (store : Bytes) (r : Result Header Refusal) : Type 0 where
   -- it is `Open` exactly where they are the layout of some history with its releases, with a tail or without
-  pub accepted : ((t : Header) × (r ≡ Open t)) ↔ ((g : Log) × LaidStore store g)
+  pub accepted : ((t : Header) × (r ≡ Ok t)) ↔ ((g : Log) × LaidStore store g)
   -- with the number of its commits as the last revision
-  pub length : (t : Header) (g : Log) → r ≡ Open t → LaidStore store g → t.last ≡ last (commits g)
+  pub length : (t : Header) (g : Log) → r ≡ Ok t → LaidStore store g → t.last ≡ last (commits g)
   -- and U is the number of the blocks before its tail
-  pub uses : (t : Header) (g : Log) → r ≡ Open t → (L : LaidStore store g) → t.used ≡ L.used
+  pub uses : (t : Header) (g : Log) → r ≡ Ok t → (L : LaidStore store g) → t.used ≡ L.used
   -- and the history that is read back is that history, with its releases in their places
   pub read_back : (g : Log) → LaidStore store g → (store_log store ≡ g) × (store_history store ≡ commits g)
 
@@ -66,7 +66,7 @@ pub record CodeDemand2 : Type 2 where
   pub read_meets : (M : Type 1) → read-statement.statement M
   pub log_meets : (M : Type 1) → log-statement.statement M
   -- `open` of any bytes
-  pub opens : (κs : Lfts 1) (x x' : Bor Bytes) (r : Opened) → open-reads.Learnt κs (x, tt) r (x', tt) → Opens x.now r
+  pub opens : (κs : Lfts 1) (x x' : Bor Bytes) (r : Result Header Refusal) → open-reads.Learnt κs (x, tt) r (x', tt) → Opens x.now r
   -- of the layout of a history, `count` answers how many blocks its tail has
   pub counts : (κs : Lfts 1) (x x' : Bor Bytes) (used used' r : ℕ) → count-reads.Learnt κs (x, (used, tt)) r (x', (used', tt))
       → (g : Log) (L : LaidStore x.now g) → r ≡ L.tail
@@ -74,7 +74,7 @@ pub record CodeDemand2 : Type 2 where
   pub reads : (κs : Lfts 1) (x x' r : Bor Bytes) (R i R' i' : ℕ) → read-reads.Learnt κs (x, (R, (i, tt))) r (x', (R', (i', tt)))
       → (g : Log) → LaidStore x.now g → R ≤ last (commits g) → i ≤ 31 → (b : Bytes) → sheet (commits g) R i ≡ some b → r.now ≡ b
   -- and `log` tells of its commits
-  pub logs : (κs : Lfts 1) (x x' : Bor Bytes) (r : Answer) (R i R' i' : ℕ) → log-reads.Learnt κs (x, (R, (i, tt))) r (x', (R', (i', tt)))
+  pub logs : (κs : Lfts 1) (x x' : Bor Bytes) (r : Result Answer Refusal) (R i R' i' : ℕ) → log-reads.Learnt κs (x, (R, (i, tt))) r (x', (R', (i', tt)))
       → (g : Log) → LaidStore x.now g → 1 ≤ R → R ≤ last (commits g) → i ≤ 31 → answer_of r ≡ log_of (commit_at (commits g) R) i
 
 -- THE PROOF
@@ -82,7 +82,7 @@ pub record CodeDemand2 : Type 2 where
 abbrev head_of : Bytes → Header
 head_of store = record { last = last (store_history store); used = used_of store }
 
-opens_as : (store : Bytes) (r : Opened) → r ≡ open_of store → Opens store r
+opens_as : (store : Bytes) (r : Result Header Refusal) → r ≡ open_of store → Opens store r
 opens_as store r e =
     let D = demand_two store [] in
     record {
@@ -96,12 +96,12 @@ opens_as store r e =
     }
 
 -- the layout of a history is open, with that history in it
-laid_open : (store : Bytes) (g : Log) → LaidStore store g → (open_of store ≡ Open (head_of store)) × (store_history store ≡ commits g)
+laid_open : (store : Bytes) (g : Log) → LaidStore store g → (open_of store ≡ Ok (head_of store)) × (store_history store ≡ commits g)
 laid_open store g L =
     let D = demand_two store [] in
     (accepted_open store (D.store-accepted.1 (g, L)), (D.store_read g L).1)
 
-module _ (store : Bytes) (e : open_of store ≡ Open (head_of store)) (R i : ℕ) (l : R ≤ last (store_history store)) (g : i ≤ 31) where
+module _ (store : Bytes) (e : open_of store ≡ Ok (head_of store)) (R i : ℕ) (l : R ≤ last (store_history store)) (g : i ≤ 31) where
   in_line_lem : (no_sheet i || ltb (last (store_history store)) R) ≡ false
   in_line_lem = sym (beyond_last i (ltb (last (store_history store)) R) g) ∙ le-ltb (last (store_history store)) R l
 

@@ -2,6 +2,7 @@
 -- blocks and four fresh copies, each call given the store and its seat's copy as the calls before left them. What whoever calls a function learns is taken from that function's own contract
 -- (`Learnt`), of which no text is repeated here, and that the code meets the contracts (`met`) stands in the same record.
 -- Assumes nothing.
+use Rattle.std.specs.Prelude.{Result}
 use Prim.Native.Nat.{◌-◌, ◌≤◌, ℕ}
 use mathlib.Core.List.{List, [], ◌++◌, ◌∷◌, map}
 use mathlib.Core.Path.{◌∙◌, ◌≡◌, ap, ap₂, refl, subst, sym}
@@ -62,55 +63,56 @@ use Rattle.engine.proofs.panel_place.Statement as panel-statement
 use Rattle.engine.proofs.read_place.Met as read-met
 use Rattle.engine.proofs.read_place.Reads as read-reads
 use Rattle.engine.proofs.read_place.Statement as read-statement
+use Rattle.model.specs.declared.Refusal.{Refusal}
 
 -- THE STATEMENT
 
 -- one call as code makes it: on this store and copy it answers r and leaves this store and copy
-pub data Made : Bytes → Bytes → Call → TheAnswer → Bytes → Bytes → Type 0 where
-  adds : {sheet : ℕ} {r : TheAnswer} (κs : Lfts 3) (x : Bor Bytes) (y : MutBor Bytes) (z x' : Bor Bytes) (y' : MutBor Bytes) (z' : Bor Bytes)
+pub data Made : Bytes → Bytes → Call → Result TheAnswer Refusal → Bytes → Bytes → Type 0 where
+  adds : {sheet : ℕ} {r : Result TheAnswer Refusal} (κs : Lfts 3) (x : Bor Bytes) (y : MutBor Bytes) (z x' : Bor Bytes) (y' : MutBor Bytes) (z' : Bor Bytes)
       → add_reads.Learnt κs (x, (y, (sheet, (z, tt)))) r (x', (y', (sheet, (z', tt)))) → Made x.now y.now (Add sheet z.now) r x.now y'.now
-  edits : {sheet : ℕ} {r : TheAnswer} (κs : Lfts 3) (x : Bor Bytes) (y : MutBor Bytes) (z x' : Bor Bytes) (y' : MutBor Bytes) (z' : Bor Bytes)
+  edits : {sheet : ℕ} {r : Result TheAnswer Refusal} (κs : Lfts 3) (x : Bor Bytes) (y : MutBor Bytes) (z x' : Bor Bytes) (y' : MutBor Bytes) (z' : Bor Bytes)
       → edit-reads.Learnt κs (x, (y, (sheet, (z, tt)))) r (x', (y', (sheet, (z', tt)))) → Made x.now y.now (Edit sheet z.now) r x.now y'.now
-  deletes : {sheet : ℕ} {r : TheAnswer} (κs : Lfts 2) (x : Bor Bytes) (y : MutBor Bytes) (x' : Bor Bytes) (y' : MutBor Bytes)
+  deletes : {sheet : ℕ} {r : Result TheAnswer Refusal} (κs : Lfts 2) (x : Bor Bytes) (y : MutBor Bytes) (x' : Bor Bytes) (y' : MutBor Bytes)
       → delete-reads.Learnt κs (x, (y, (sheet, tt))) r (x', (y', (sheet, tt))) → Made x.now y.now (Delete sheet) r x.now y'.now
-  copies : {s t : ℕ} {r : TheAnswer} (κs : Lfts 2) (x : Bor Bytes) (y : MutBor Bytes) (x' : Bor Bytes) (y' : MutBor Bytes)
+  copies : {s t : ℕ} {r : Result TheAnswer Refusal} (κs : Lfts 2) (x : Bor Bytes) (y : MutBor Bytes) (x' : Bor Bytes) (y' : MutBor Bytes)
       → copy-reads.Learnt κs (x, (y, (s, (t, tt)))) r (x', (y', (s, (t, tt)))) → Made x.now y.now (Copy s t) r x.now y'.now
-  moves : {s t : ℕ} {r : TheAnswer} (κs : Lfts 2) (x : Bor Bytes) (y : MutBor Bytes) (x' : Bor Bytes) (y' : MutBor Bytes)
+  moves : {s t : ℕ} {r : Result TheAnswer Refusal} (κs : Lfts 2) (x : Bor Bytes) (y : MutBor Bytes) (x' : Bor Bytes) (y' : MutBor Bytes)
       → move-reads.Learnt κs (x, (y, (s, (t, tt)))) r (x', (y', (s, (t, tt)))) → Made x.now y.now (Move s t) r x.now y'.now
-  commits : {stamp mask : ℕ} {r : TheAnswer} (κs : Lfts 2) (x y x' y' : MutBor Bytes)
+  commits : {stamp mask : ℕ} {r : Result TheAnswer Refusal} (κs : Lfts 2) (x y x' y' : MutBor Bytes)
       → commit-reads.Learnt κs (x, (y, (stamp, (mask, tt)))) r (x', (y', (stamp, (mask, tt)))) → Made x.now y.now (Commits stamp mask) r x'.now y'.now
-  updates : {mask R : ℕ} {r : TheAnswer} (κs : Lfts 2) (x : Bor Bytes) (y : MutBor Bytes) (x' : Bor Bytes) (y' : MutBor Bytes)
+  updates : {mask R : ℕ} {r : Result TheAnswer Refusal} (κs : Lfts 2) (x : Bor Bytes) (y : MutBor Bytes) (x' : Bor Bytes) (y' : MutBor Bytes)
       → update-reads.Learnt κs (x, (y, (mask, (R, tt)))) r (x', (y', (mask, (R, tt)))) → Made x.now y.now (Update mask R) r x.now y'.now
-  reverts : {mask : ℕ} {r : TheAnswer} (κs : Lfts 2) (x : Bor Bytes) (y : MutBor Bytes) (x' : Bor Bytes) (y' : MutBor Bytes)
+  reverts : {mask : ℕ} {r : Result TheAnswer Refusal} (κs : Lfts 2) (x : Bor Bytes) (y : MutBor Bytes) (x' : Bor Bytes) (y' : MutBor Bytes)
       → revert-reads.Learnt κs (x, (y, (mask, tt))) r (x', (y', (mask, tt))) → Made x.now y.now (Revert mask) r x.now y'.now
-  clears : {r : TheAnswer} {copy : Bytes} (κs : Lfts 1) (x x' : MutBor Bytes) → clear_reads.Learnt κs (x, tt) r (x', tt) → Made x.now copy Clears r x'.now copy
-  commits_cut : {stamp mask n : ℕ} {r : TheAnswer} (κs : Lfts 2) (x y x' y' : MutBor Bytes)
+  clears : {r : Result TheAnswer Refusal} {copy : Bytes} (κs : Lfts 1) (x x' : MutBor Bytes) → clear_reads.Learnt κs (x, tt) r (x', tt) → Made x.now copy Clears r x'.now copy
+  commits_cut : {stamp mask n : ℕ} {r : Result TheAnswer Refusal} (κs : Lfts 2) (x y x' y' : MutBor Bytes)
       → commit-cut-reads.Learnt κs (x, (y, (stamp, (mask, (n, tt))))) r (x', (y', (stamp, (mask, (n, tt))))) → Made x.now y.now (CommitsCut stamp mask n) r x'.now y'.now
-  clears_cut : {n : ℕ} {r : TheAnswer} {copy : Bytes} (κs : Lfts 1) (x x' : MutBor Bytes)
+  clears_cut : {n : ℕ} {r : Result TheAnswer Refusal} {copy : Bytes} (κs : Lfts 1) (x x' : MutBor Bytes)
       → clear-cut-reads.Learnt κs (x, (n, tt)) r (x', (n, tt)) → Made x.now copy (ClearsCut n) r x'.now copy
-  releases : {R seat stamp : ℕ} {r : TheAnswer} {copy : Bytes} (κs : Lfts 1) (x x' : MutBor Bytes)
+  releases : {R seat stamp : ℕ} {r : Result TheAnswer Refusal} {copy : Bytes} (κs : Lfts 1) (x x' : MutBor Bytes)
       → release-reads.Learnt κs (x, (R, (seat, (stamp, tt)))) r (x', (R, (seat, (stamp, tt)))) → Made x.now copy (Release R seat stamp) r x'.now copy
 
 -- a list of calls, their answers, and the buffers afterwards. Every beginning of a trace is a trace, so what is said of a trace is said after every call
-pub data Trace : Buffers → List Turn → List TheAnswer → Buffers → Type 0 where
+pub data Trace : Buffers → List Turn → List (Result TheAnswer Refusal) → Buffers → Type 0 where
   over : {b : Buffers} → Trace b [] [] b
-  next : {b b' : Buffers} {t : Turn} {ts : List Turn} {r : TheAnswer} {rs : List TheAnswer} {store' copy' : Bytes}
+  next : {b b' : Buffers} {t : Turn} {ts : List Turn} {r : Result TheAnswer Refusal} {rs : List (Result TheAnswer Refusal)} {store' copy' : Bytes}
       → Made b.store (copy_in b t.by) t.call r store' copy'
       → Trace (record { store = store'; copies = set b.copies (t.by - 1) copy' }) ts rs b' → Trace b (t ∷ ts) (r ∷ rs) b'
 
 -- whoever calls `read_place` on this store for sheet i of revision R finds there exactly the bytes that the first R of these commits leave on an empty tree, and the last of them that names
 -- the sheet (W3), or refusal 8
 abbrev pub Read : Bytes → History → ℕ → ℕ → Type 0
-Read store h R i = (κs : Lfts 1) (x x' : Bor Bytes) (r : Place) (R' i' : ℕ) → x.now ≡ store → read-reads.Learnt κs (x, (R, (i, tt))) r (x', (R', (i', tt)))
+Read store h R i = (κs : Lfts 1) (x x' : Bor Bytes) (r : Result Place Refusal) (R' i' : ℕ) → x.now ≡ store → read-reads.Learnt κs (x, (R, (i, tt))) r (x', (R', (i', tt)))
     → heard store [] (place_of r) ≡ as_bytes (namer h R i) (sheet h R i)
 
 -- whoever calls `panel_place` there, where ms are the releases: the same at the greatest released revision up to R, or refusal 8
 abbrev pub PanelRead : Bytes → History → List Placed → ℕ → ℕ → Type 0
-PanelRead store h ms R i = (κs : Lfts 1) (x x' : Bor Bytes) (r : Place) (R' i' : ℕ) → x.now ≡ store → panel-reads.Learnt κs (x, (R, (i, tt))) r (x', (R', (i', tt)))
+PanelRead store h ms R i = (κs : Lfts 1) (x x' : Bor Bytes) (r : Result Place Refusal) (R' i' : ℕ) → x.now ≡ store → panel-reads.Learnt κs (x, (R, (i, tt))) r (x', (R', (i', tt)))
     → heard store [] (place_of r) ≡ as_bytes (namer h (panel_revision ms R) i) (sheet h (panel_revision ms R) i)
 
 -- of N blocks and the list ts, where rs are the answers, b the buffers that the calls leave, h the commits that were accepted and ms the releases
-pub record CodeWholeList (N : ℕ) (ts : List Turn) (rs : List TheAnswer) (b : Buffers) (h : History) (ms : List Placed) : Type 0 where
+pub record CodeWholeList (N : ℕ) (ts : List Turn) (rs : List (Result TheAnswer Refusal)) (b : Buffers) (h : History) (ms : List Placed) : Type 0 where
   -- "every call's answer, the history in the store and the entries in the copies after it equal the machine's"
   pub answer : map answer_of rs ≡ answers (fresh N) ts
   pub shows : Shows N b (run (fresh N) ts)
@@ -123,11 +125,11 @@ pub record CodeWholeList (N : ℕ) (ts : List Turn) (rs : List TheAnswer) (b : B
   pub panel : (R i : ℕ) → R ≤ length h → i ≤ 31 → PanelRead b.store h ms R i
   -- "an update to R by a seat with nothing pending brings each chosen sheet to the same"
   pub brought : (k mask R : ℕ) → 1 ≤ k → k ≤ 4 → (mask ≡ 0 → ⊥) → R ≤ length h → NothingPending b h k
-      → {r : TheAnswer} {store' copy' : Bytes} → Made b.store (copy_in b k) (Update mask R) r store' copy' → Brings (out (answer_of r) store' copy') h mask R
+      → {r : Result TheAnswer Refusal} {store' copy' : Bytes} → Made b.store (copy_in b k) (Update mask R) r store' copy' → Brings (out (answer_of r) store' copy') h mask R
   -- "and what is found at R stays so after every longer list"
-  pub lasting : {us : List Turn} {qs : List TheAnswer} {b' : Buffers} → AllValid us → Trace b us qs b' → (R i : ℕ) → R ≤ length h → i ≤ 31 → Read b'.store h R i
+  pub lasting : {us : List Turn} {qs : List (Result TheAnswer Refusal)} {b' : Buffers} → AllValid us → Trace b us qs b' → (R i : ℕ) → R ≤ length h → i ≤ 31 → Read b'.store h R i
   -- and for a panel: what these same commits leave, at the greatest revision up to R that was released until then
-  pub lasting-panel : {us : List Turn} {qs : List TheAnswer} {b' : Buffers} → AllValid us → Trace b us qs b' → (R i : ℕ) → R ≤ length h → i ≤ 31
+  pub lasting-panel : {us : List Turn} {qs : List (Result TheAnswer Refusal)} {b' : Buffers} → AllValid us → Trace b us qs b' → (R i : ℕ) → R ≤ length h → i ≤ 31
       → PanelRead b'.store h (accepted_marks (fresh N) (ts ++ us)) R i
 
 pub record CodeDemand3 : Type 2 where
@@ -145,13 +147,13 @@ pub record CodeDemand3 : Type 2 where
   pub release_meets : (M : Type 1) → release-statement.statement M
   pub read_meets : (M : Type 1) → read-statement.statement M
   pub panel_meets : (M : Type 1) → panel-statement.statement M
-  pub whole : (N : ℕ) (ts : List Turn) → 2 ≤ N → N ≤ 4_096 → AllValid ts → (rs : List TheAnswer) (b : Buffers) → Trace (fresh_buffers N) ts rs b
+  pub whole : (N : ℕ) (ts : List Turn) → 2 ≤ N → N ≤ 4_096 → AllValid ts → (rs : List (Result TheAnswer Refusal)) (b : Buffers) → Trace (fresh_buffers N) ts rs b
       → CodeWholeList N ts rs b (accepted (fresh N) ts) (accepted_marks (fresh N) ts)
 
 -- THE PROOF
 
 -- what a caller learns is the call on buffers
-pub made_is : {store copy store' copy' : Bytes} {c : Call} {r : TheAnswer} → Made store copy c r store' copy' → out (answer_of r) store' copy' ≡ call store copy c
+pub made_is : {store copy store' copy' : Bytes} {c : Call} {r : Result TheAnswer Refusal} → Made store copy c r store' copy' → out (answer_of r) store' copy' ≡ call store copy c
 made_is (adds κs x y z x' y' z' e) = e
 made_is (edits κs x y z x' y' z' e) = e
 made_is (deletes κs x y x' y' e) = e
@@ -166,7 +168,7 @@ made_is (clears_cut {copy = copy} κs x x' e) = ap (λ (o : Created). out o.says
 made_is (releases {copy = copy} κs x x' e) = ap (λ (o : Created). out o.says o.buffer copy) e
 
 -- a trace is the calls on buffers
-pub traced : {b b' : Buffers} {ts : List Turn} {rs : List TheAnswer} → Trace b ts rs b' → (map answer_of rs ≡ answers_on b ts) × (b' ≡ run_on b ts)
+pub traced : {b b' : Buffers} {ts : List Turn} {rs : List (Result TheAnswer Refusal)} → Trace b ts rs b' → (map answer_of rs ≡ answers_on b ts) × (b' ≡ run_on b ts)
 traced over = (refl, refl)
 traced (next {b = b} {t = t} {ts = ts} {r = r} {rs = rs} {store' = store'} {copy' = copy'} m more) =
     let e = made_is m in

@@ -1,6 +1,7 @@
 -- Demand 3 with the turn record for the code: any list of ordinary calls, calls on the record and commits through it, from a fresh store, four fresh copies and a free record. What whoever
 -- calls a function learns is taken from that function's own contract (`Learnt`), as in Demand3, and that the code meets the contracts (`met`) stands in the same record.
 -- Assumes nothing.
+use Rattle.std.specs.Prelude.{Result}
 use Prim.Native.Nat.{◌-◌, ◌≤◌, ℕ}
 use mathlib.Core.List.{List, [], ◌++◌, ◌∷◌, map}
 use mathlib.Core.Path.{◌∙◌, ◌≡◌, ap, ap₂, refl, subst, sym}
@@ -30,12 +31,13 @@ use Rattle.engine.proofs.commit_in_turn.Statement as in-turn-statement
 use Rattle.engine.proofs.Demand3.{CodeDemand3, Made, PanelRead, Read, code_demand_three, made_is, panel_is, read_is}
 use Rattle.turns.proofs.Mixed.{demand_three_in_turn}
 use Rattle.turns.proofs.Traces.{CodeTurns, TurnMade, code_turns, left-made, turn-made_is}
+use Rattle.model.specs.declared.Refusal.{Refusal}
 
 -- THE STATEMENT
 
 -- a commit through the record
-pub data Through : Bytes → Bytes → TurnRecord → ℕ → ℕ → TheAnswer → Bytes → Bytes → Type 0 where
-  commits_in_turn : {t : TurnRecord} {stamp mask : ℕ} {r : TheAnswer} (κs : Lfts 2) (x y x' y' : MutBor Bytes)
+pub data Through : Bytes → Bytes → TurnRecord → ℕ → ℕ → Result TheAnswer Refusal → Bytes → Bytes → Type 0 where
+  commits_in_turn : {t : TurnRecord} {stamp mask : ℕ} {r : Result TheAnswer Refusal} (κs : Lfts 2) (x y x' y' : MutBor Bytes)
       → in-turn-reads.Learnt κs (x, (y, (t, (stamp, (mask, tt))))) r (x', (y', (t, (stamp, (mask, tt))))) → Through x.now y.now t stamp mask r x'.now y'.now
 
 -- what an answer of either kind says
@@ -50,12 +52,12 @@ spoken_of (held a) = holds (held_of a)
 -- a list of calls of every kind, what they answer, and the buffers and the record afterwards
 pub data MixedTrace : Buffers → TurnRecord → List Move → List Spoken → Buffers → TurnRecord → Type 0 where
   over : {b : Buffers} {t : TurnRecord} → MixedTrace b t [] [] b t
-  calls : {b b' : Buffers} {t t' : TurnRecord} {k : Turn} {ms : List Move} {r : TheAnswer} {ss : List Spoken} {store' copy' : Bytes}
+  calls : {b b' : Buffers} {t t' : TurnRecord} {k : Turn} {ms : List Move} {r : Result TheAnswer Refusal} {ss : List Spoken} {store' copy' : Bytes}
       → Made b.store (copy_in b k.by) k.call r store' copy'
       → MixedTrace (record { store = store'; copies = set b.copies (k.by - 1) copy' }) t ms ss b' t' → MixedTrace b t (plain k ∷ ms) (told (answer_of r) ∷ ss) b' t'
   turning : {b b' : Buffers} {t t' : TurnRecord} {c : TurnCall} {ms : List Move} {r : Turned} {ss : List Spoken}
       → TurnMade t c r → MixedTrace b r.turn ms ss b' t' → MixedTrace b t (turns c ∷ ms) (holds r.answer ∷ ss) b' t'
-  commits-through : {b b' : Buffers} {t t' : TurnRecord} {k stamp mask : ℕ} {ms : List Move} {r : TheAnswer} {ss : List Spoken} {store' copy' : Bytes}
+  commits-through : {b b' : Buffers} {t t' : TurnRecord} {k stamp mask : ℕ} {ms : List Move} {r : Result TheAnswer Refusal} {ss : List Spoken} {store' copy' : Bytes}
       → Through b.store (copy_in b k) t stamp mask r store' copy'
       → MixedTrace (record { store = store'; copies = set b.copies (k - 1) copy' }) t ms ss b' t' → MixedTrace b t (commits k stamp mask ∷ ms) (told (answer_of r) ∷ ss) b' t'
 
@@ -76,7 +78,7 @@ pub record CodeMixedList (N : ℕ) (ms : List Move) (ss : List Spoken) (b : Buff
   pub panel : (R i : ℕ) → R ≤ length h → i ≤ 31 → PanelRead b.store h ps R i
   -- "an update to R by a seat with nothing pending brings each chosen sheet to the same"
   pub brought : (k mask R : ℕ) → 1 ≤ k → k ≤ 4 → (mask ≡ 0 → ⊥) → R ≤ length h → NothingPending b h k
-      → {r : TheAnswer} {store' copy' : Bytes} → Made b.store (copy_in b k) (Update mask R) r store' copy' → Brings (out (answer_of r) store' copy') h mask R
+      → {r : Result TheAnswer Refusal} {store' copy' : Bytes} → Made b.store (copy_in b k) (Update mask R) r store' copy' → Brings (out (answer_of r) store' copy') h mask R
   -- "and what is found at R stays so after every longer list", of calls of every kind
   pub lasting : {us : List Move} {qs : List Spoken} {b' : Buffers} {t' : TurnRecord} → ValidMoves us → MixedTrace b t us qs b' t'
       → (R i : ℕ) → R ≤ length h → i ≤ 31 → Read b'.store h R i
@@ -93,7 +95,7 @@ pub record CodeDemand3InTurn : Type 2 where
 -- THE PROOF
 
 -- what a caller learns is the commit on buffers
-pub through_is : {store copy store' copy' : Bytes} {t : TurnRecord} {stamp mask : ℕ} {r : TheAnswer} → Through store copy t stamp mask r store' copy'
+pub through_is : {store copy store' copy' : Bytes} {t : TurnRecord} {stamp mask : ℕ} {r : Result TheAnswer Refusal} → Through store copy t stamp mask r store' copy'
     → out (answer_of r) store' copy' ≡ in_turn_call store copy (numbers_of t) stamp mask
 through_is (commits_in_turn κs x y x' y' e) = e
 

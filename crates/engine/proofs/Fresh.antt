@@ -1,5 +1,6 @@
 -- A store of zeros with the label sealed in it is the fresh store; and what create answers.
 -- Assumes nothing.
+use Rattle.std.specs.Prelude.{Err, Ok, Result}
 use Prim.Native.Nat.{◌*◌, ◌+◌, ◌-◌, ◌≤◌, suc, zero, ℕ}
 use mathlib.Core.Bool.{Bool, cond, false, true}
 use mathlib.Core.List.{List, ◌++◌, append-nil}
@@ -21,10 +22,11 @@ use Rattle.model.specs.History.{Bytes}
 use Rattle.model.specs.Store.{block_count}
 use Rattle.model.specs.Types.{created_as}
 use Rattle.model.specs.declared.Answer.{Answer}
-use Rattle.model.specs.declared.Answer.TheVariants.{Done, Refused}
+use Rattle.model.specs.declared.Answer.TheVariants.{Done}
 use Rattle.model.specs.declared.Refusal.TheVariants.{StoreLength}
 use Rattle.laws.proofs.Conditions.{sized_so}
 use Rattle.laws.proofs.Fresh.{create_copy_lem, create_store_lem}
+use Rattle.model.specs.declared.Refusal.{Refusal}
 
 -- zeros written over all bytes
 pub all-zero : (l : List ℕ) → written 0 (replicate (length l - 0) 0) l ≡ replicate (length l) 0
@@ -69,20 +71,20 @@ fresh-bytes n len e h =
     ∙ first-sealed z
     ∙ ap (λ (x : List ℕ). encode fields_of label ++ x) (sym (blanks-zero (n - 1)))
 
-pub create_refused : (l : Bytes) → (size_condition l).holds ≡ true → created_as (Refused StoreLength) l ≡ create_store l
+pub create_refused : (l : Bytes) → (size_condition l).holds ≡ true → created_as (Err StoreLength) l ≡ create_store l
 unfolding create_store
 create_refused l e = sym (ap (λ (t : Bool). create_by (cond t (some 1) none) l (fresh_store (block_count l))) e)
 
-pub create_done : (l m : Bytes) → (size_condition l).holds ≡ false → m ≡ seal_at (set (set (replicate (length l) 0) 0 1) 1 1) 0 → created_as Done m ≡ create_store l
+pub create_done : (l m : Bytes) → (size_condition l).holds ≡ false → m ≡ seal_at (set (set (replicate (length l) 0) 0 1) 1 1) 0 → created_as (Ok Done) m ≡ create_store l
 unfolding create_store
 create_done l m e q =
     let p = sized_so l e in
-    ap (created_as Done) (q ∙ fresh-bytes (block_count l) (length l) p.0 (omega (arith, p.1)))
+    ap (created_as (Ok Done)) (q ∙ fresh-bytes (block_count l) (length l) p.0 (omega (arith, p.1)))
     ∙ sym (ap (λ (t : Bool). create_by (cond t (some 1) none) l (fresh_store (block_count l))) e)
 
 -- what a caller of create learns of a buffer of the right length
-pub store-made : (N : ℕ) (l m : Bytes) (r : Answer) → length l ≡ N * 512 → 2 ≤ N → N ≤ 4_096 → created_as r m ≡ create_store l → m ≡ fresh_store N
+pub store-made : (N : ℕ) (l m : Bytes) (r : Result Answer Refusal) → length l ≡ N * 512 → 2 ≤ N → N ≤ 4_096 → created_as r m ≡ create_store l → m ≡ fresh_store N
 store-made N l m r e lo hi q = ap (λ (c : Created). c.buffer) (q ∙ create_store_lem N l e lo hi)
 
-pub copy-made : (l m : Bytes) (r : Answer) (k : ℕ) → length l ≡ 16_896 → 1 ≤ k → k ≤ 4 → created_as r m ≡ create_copy l k → m ≡ fresh_copy k
+pub copy-made : (l m : Bytes) (r : Result Answer Refusal) (k : ℕ) → length l ≡ 16_896 → 1 ≤ k → k ≤ 4 → created_as r m ≡ create_copy l k → m ≡ fresh_copy k
 copy-made l m r k e lo hi q = ap (λ (c : Created). c.buffer) (q ∙ create_copy_lem l k e lo hi)

@@ -2,6 +2,7 @@
 -- block down; without a tail it changes nothing. New numbers: 14, commit on a store that has a tail, checked right after 3."
 -- Of the calls nothing is known but their functions' own contracts: `Made` is that of Demand3, `Looked` that of Demand1.
 -- Assumes nothing.
+use Rattle.std.specs.Prelude.{Result}
 use Prim.Native.Nat.{◌+◌, ◌-◌, ℕ}
 use mathlib.Core.Bool.{Bool}
 use mathlib.Core.Option.{none}
@@ -26,6 +27,7 @@ use Rattle.tails.proofs.clear.Statement as tail-statement
 use Rattle.engine.proofs.read_place.Reads as read-reads
 use Rattle.engine.proofs.panel_place.Reads as panel-reads
 use Rattle.engine.proofs.show_place.Reads as show-reads
+use Rattle.model.specs.declared.Refusal.{Refusal}
 
 -- THE STATEMENT
 
@@ -34,25 +36,25 @@ pub record OnTail (store : Bytes) : Type 0 where
   -- the store as if its tail were zero blocks is accepted too, and has no tail
   pub bare : Bare store (bare_of store)
   -- add, edit, delete, copy, move, update and revert: the same call on the bare store has the same answer and leaves the same working copy; the store stays, tail and all
-  pub changes : {copy store' copy' bare' copy'' : Bytes} {c : Call} {r q : TheAnswer} → Meanwhile c → Made store copy c r store' copy' → Made (bare_of store) copy c q bare' copy''
+  pub changes : {copy store' copy' bare' copy'' : Bytes} {c : Call} {r q : Result TheAnswer Refusal} → Meanwhile c → Made store copy c r store' copy' → Made (bare_of store) copy c q bare' copy''
       → (answer_of r ≡ answer_of q) × (store' ≡ store) × (copy' ≡ copy'')
   -- status, show, log, read and panel reading
   pub looks : {copy : Bytes} {c : Call} {a b : Answer} → Looked store copy c a → Looked (bare_of store) copy c b → a ≡ b
   -- the places that read, panel reading and show answer
-  pub read_places : (R i : ℕ) (κs λs : Lfts 1) (x x' y y' : Bor Bytes) (r q : Place) → x.now ≡ store → y.now ≡ bare_of store
+  pub read_places : (R i : ℕ) (κs λs : Lfts 1) (x x' y y' : Bor Bytes) (r q : Result Place Refusal) → x.now ≡ store → y.now ≡ bare_of store
       → read-reads.Learnt κs (x, (R, (i, tt))) r (x', (R, (i, tt))) → read-reads.Learnt λs (y, (R, (i, tt))) q (y', (R, (i, tt))) → place_of r ≡ place_of q
-  pub panel_places : (R i : ℕ) (κs λs : Lfts 1) (x x' y y' : Bor Bytes) (r q : Place) → x.now ≡ store → y.now ≡ bare_of store
+  pub panel_places : (R i : ℕ) (κs λs : Lfts 1) (x x' y y' : Bor Bytes) (r q : Result Place Refusal) → x.now ≡ store → y.now ≡ bare_of store
       → panel-reads.Learnt κs (x, (R, (i, tt))) r (x', (R, (i, tt))) → panel-reads.Learnt λs (y, (R, (i, tt))) q (y', (R, (i, tt))) → place_of r ≡ place_of q
-  pub show_places : (i : ℕ) (κs λs : Lfts 1) (x u x' u' y w y' w' : Bor Bytes) (r q : Place) → x.now ≡ store → y.now ≡ bare_of store → u.now ≡ w.now
+  pub show_places : (i : ℕ) (κs λs : Lfts 1) (x u x' u' y w y' w' : Bor Bytes) (r q : Result Place Refusal) → x.now ≡ store → y.now ≡ bare_of store → u.now ≡ w.now
       → show-reads.Learnt κs (x, (u, (i, tt))) r (x', (u', (i, tt))) → show-reads.Learnt λs (y, (w, (i, tt))) q (y', (w', (i, tt))) → place_of r ≡ place_of q
   -- commit is refused with 14, whatever the working copy is
-  pub commits : {copy store' copy' : Bytes} {stamp mask : ℕ} {r : TheAnswer} → (tail_of store ≡ 0 → ⊥) → Made store copy (Commits stamp mask) r store' copy'
+  pub commits : {copy store' copy' : Bytes} {stamp mask : ℕ} {r : Result TheAnswer Refusal} → (tail_of store ≡ 0 → ⊥) → Made store copy (Commits stamp mask) r store' copy'
       → out (answer_of r) store' copy' ≡ out (refused 14) store copy
   -- and so is a release (W9), whatever its numbers are
-  pub releases : {copy store' copy' : Bytes} {R seat stamp : ℕ} {r : TheAnswer} → (tail_of store ≡ 0 → ⊥) → Made store copy (Release R seat stamp) r store' copy'
+  pub releases : {copy store' copy' : Bytes} {R seat stamp : ℕ} {r : Result TheAnswer Refusal} → (tail_of store ≡ 0 → ⊥) → Made store copy (Release R seat stamp) r store' copy'
       → out (answer_of r) store' copy' ≡ out (refused 14) store copy
   -- clearing is done, and gives exactly the bare store; without a tail that is the store as it was
-  pub clears : {copy store' copy' : Bytes} {r : TheAnswer} → Made store copy Clears r store' copy' → (answer_of r ≡ done) × (store' ≡ bare_of store)
+  pub clears : {copy store' copy' : Bytes} {r : Result TheAnswer Refusal} → Made store copy Clears r store' copy' → (answer_of r ≡ done) × (store' ≡ bare_of store)
   pub unchanged : tail_of store ≡ 0 → bare_of store ≡ store
   -- "from its highest block down": the function that clears the tail, stopped after n blocks, has cleared the highest n of them and nothing else
   pub downwards : (κs : Lfts 1) (x x' : MutBor Bytes) (used count n used' count' n' : ℕ) (r : Bool) → x.now ≡ store → used ≡ used_of store → count ≡ tail_of store

@@ -2,6 +2,7 @@
 -- written in another order are still accepted and read. Two fresh stores of one size whose calls make the same history then hold equal bytes."
 -- Of the calls nothing is known but their functions' own contracts: `Made` and `Trace` are those of Demand3.
 -- Assumes nothing.
+use Rattle.std.specs.Prelude.{Ok, Result}
 use Prim.Native.Nat.{◌<◌, ◌^◌, ◌≤◌, ℕ}
 use mathlib.Core.List.{List}
 use mathlib.Core.Path.{◌∙◌, ◌≡◌, ap, subst, sym}
@@ -20,12 +21,11 @@ use Rattle.model.specs.Types.{answer_of}
 use Rattle.model.specs.declared.Answer.{Answer as TheAnswer}
 use Rattle.laws.proofs.Ordered.{ordered}
 use Rattle.store.specs.declared.Header.{Header}
-use Rattle.store.specs.declared.Opened.{Opened}
-use Rattle.store.specs.declared.Opened.TheVariants.{Open}
 use contract.Lifetimes.{Lfts}
 use Rattle.engine.proofs.Demand2.{CodeDemand2, code_demand_two}
 use Rattle.engine.proofs.Demand3.{CodeDemand3, Made, Read, Trace, code_demand_three, made_is, read_is, traced}
 use Rattle.store.proofs.open.Reads as open-reads
+use Rattle.model.specs.declared.Refusal.{Refusal}
 
 -- THE STATEMENT
 
@@ -35,31 +35,31 @@ pub record CodeOrdered : Type 2 where
   pub open_meets : CodeDemand2
   -- "From now on a commit writes its changes by rising sheet number, and its content blocks in the order of the changes that point to them.": a commit that answers a revision, on any
   -- buffers; every block that was in use stays as it was
-  pub commits : {store copy store' copy' : Bytes} {stamp mask : ℕ} {r : TheAnswer} → Made store copy (Commits stamp mask) r store' copy' → stamp < 2 ^ 32
+  pub commits : {store copy store' copy' : Bytes} {stamp mask : ℕ} {r : Result TheAnswer Refusal} → Made store copy (Commits stamp mask) r store' copy' → stamp < 2 ^ 32
       → (R : ℕ) → answer_of r ≡ revision R → Appends store store' (new_commit (side_in store copy) stamp mask) R
   -- a release that is done, on any store: its block stands behind the used ones, which stay
-  pub releases : {store copy store' copy' : Bytes} {R seat stamp : ℕ} {r : TheAnswer} → Made store copy (Release R seat stamp) r store' copy' → stamp < 2 ^ 32
+  pub releases : {store copy store' copy' : Bytes} {R seat stamp : ℕ} {r : Result TheAnswer Refusal} → Made store copy (Release R seat stamp) r store' copy' → stamp < 2 ^ 32
       → answer_of r ≡ done → AppendsMark store store' (released R seat stamp)
   -- "Stores already written in another order are still accepted and read.": `open` accepts every layout of a history, which leaves the order free, and `read_place` finds its sheets
-  pub opened : (κs : Lfts 1) (x x' : Bor Bytes) (r : Opened) → open-reads.Learnt κs (x, tt) r (x', tt) → (g : Log) → LaidStore x.now g → (t : Header) × (r ≡ Open t)
+  pub opened : (κs : Lfts 1) (x x' : Bor Bytes) (r : Result Header Refusal) → open-reads.Learnt κs (x, tt) r (x', tt) → (g : Log) → LaidStore x.now g → (t : Header) × (r ≡ Ok t)
   pub found : (store : Bytes) (g : Log) → LaidStore store g → (R i : ℕ) → R ≤ last (commits_of g) → i ≤ 31 → Read store (commits_of g) R i
   -- and calls go on with them: behind the blocks in use, which stay, the commits that were accepted and the releases, in this order; a tail that is left counts as zero blocks
-  pub lists : {b b' : Buffers} {ts : List Turn} {rs : List TheAnswer} → AllAccepted b → AllValid ts → Trace b ts rs b'
+  pub lists : {b b' : Buffers} {ts : List Turn} {rs : List (Result TheAnswer Refusal)} → AllAccepted b → AllValid ts → Trace b ts rs b'
       → bare_of b'.store ≡ continued b.store (accepted_log (state_in b) ts)
   -- from a fresh store of N blocks and four fresh copies, where the calls leave no tail: the bytes follow from N, the accepted commits and the releases in their places:
   -- "For layout and W1 a history includes its releases and their places."
-  pub bytes : (N : ℕ) → 2 ≤ N → N ≤ 4_096 → {b : Buffers} {ts : List Turn} {rs : List TheAnswer} → AllValid ts → Trace (fresh_buffers N) ts rs b
+  pub bytes : (N : ℕ) → 2 ≤ N → N ≤ 4_096 → {b : Buffers} {ts : List Turn} {rs : List (Result TheAnswer Refusal)} → AllValid ts → Trace (fresh_buffers N) ts rs b
       → tail_of b.store ≡ 0 → b.store ≡ store_bytes N (accepted_log (fresh N) ts)
   -- "Two fresh stores of one size whose calls make the same history then hold equal bytes."
-  pub equal : (N : ℕ) → 2 ≤ N → N ≤ 4_096 → {b c : Buffers} {ts us : List Turn} {rs qs : List TheAnswer} → AllValid ts → AllValid us
+  pub equal : (N : ℕ) → 2 ≤ N → N ≤ 4_096 → {b c : Buffers} {ts us : List Turn} {rs qs : List (Result TheAnswer Refusal)} → AllValid ts → AllValid us
       → Trace (fresh_buffers N) ts rs b → Trace (fresh_buffers N) us qs c → tail_of b.store ≡ 0 → tail_of c.store ≡ 0 → accepted_log (fresh N) ts ≡ accepted_log (fresh N) us → b.store ≡ c.store
   -- and back: equal bytes are the same history
-  pub back : (N : ℕ) → 2 ≤ N → N ≤ 4_096 → {b c : Buffers} {ts us : List Turn} {rs qs : List TheAnswer} → AllValid ts → AllValid us
+  pub back : (N : ℕ) → 2 ≤ N → N ≤ 4_096 → {b c : Buffers} {ts us : List Turn} {rs qs : List (Result TheAnswer Refusal)} → AllValid ts → AllValid us
       → Trace (fresh_buffers N) ts rs b → Trace (fresh_buffers N) us qs c → b.store ≡ c.store → accepted_log (fresh N) ts ≡ accepted_log (fresh N) us
 
 -- THE PROOF
 
-left : {b b' : Buffers} {ts : List Turn} {rs : List TheAnswer} → Trace b ts rs b' → b'.store ≡ (run_on b ts).store
+left : {b b' : Buffers} {ts : List Turn} {rs : List (Result TheAnswer Refusal)} → Trace b ts rs b' → b'.store ≡ (run_on b ts).store
 left T = ap (λ (x : Buffers). x.store) (traced T).1
 
 pub code_ordered : CodeOrdered

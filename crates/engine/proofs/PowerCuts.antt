@@ -1,6 +1,7 @@
 -- W6 for a list of events, for the code: calls by four seats, power cuts at any write of `commit_cut` and `clear_cut` and in the one of `release`, clearings in between. What whoever calls a function learns is taken from
 -- its own contract (`Learnt`, in `Made`), and that the code meets the contracts (`met`) stands in the same record.
 -- Assumes nothing.
+use Rattle.std.specs.Prelude.{Result}
 use Prim.Native.Nat.{◌-◌, ◌<◌, ◌^◌, ◌≤◌, ℕ}
 use mathlib.Core.List.{List, [], ◌++◌, ◌∷◌}
 use mathlib.Core.Path.{◌∙◌, ◌≡◌, ap, refl, subst, sym}
@@ -21,12 +22,13 @@ use Rattle.model.specs.declared.Answer.{Answer}
 use Rattle.laws.proofs.PowerCuts.{power_cuts}
 use Rattle.engine.proofs.Cut.{CodeFoundClearing, CodeFoundCommitting, CodeFoundReleasing, found_in_lem, found_releasing}
 use Rattle.engine.proofs.Demand3.{CodeDemand3, Made, PanelRead, Read, code_demand_three, made_is, panel_is, read_is}
+use Rattle.model.specs.declared.Refusal.{Refusal}
 
 -- THE STATEMENT
 
 -- an event, as the code brings it about, from one store and four copies to the next
 pub data Happens : Buffers → Event → Buffers → Type 0 where
-  called : {b : Buffers} {t : Turn} {r : Answer} {store' copy' : Bytes} → Valid t → Made b.store (copy_in b t.by) t.call r store' copy'
+  called : {b : Buffers} {t : Turn} {r : Result Answer Refusal} {store' copy' : Bytes} → Valid t → Made b.store (copy_in b t.by) t.call r store' copy'
       → Happens b (calls t) (record { store = store'; copies = set b.copies (t.by - 1) copy' })
   commit_cut : {b : Buffers} {k stamp mask : ℕ} {f : Bytes} → 1 ≤ k → k ≤ 4 → stamp < 2 ^ 32 → Clear (both_conditions b.store (copy_in b k) (Commits stamp mask))
       → CodeFoundCommitting b.store (copy_in b k) stamp mask f → Happens b (commit_fails k stamp mask f) (record { store = f; copies = b.copies })
@@ -47,14 +49,14 @@ pub record CodeEndures (N : ℕ) (b : Buffers) (g : Log) : Type 0 where
   pub log : store_log b.store ≡ g
   pub history : store_history b.store ≡ commits g
   -- the next call answers as the machine does on what the buffers hold
-  pub answer : (t : Turn) → Valid t → {r : Answer} {store' copy' : Bytes} → Made b.store (copy_in b t.by) t.call r store' copy' → answer_of r ≡ (step (state_in b) t.by t.call).0
+  pub answer : (t : Turn) → Valid t → {r : Result Answer Refusal} {store' copy' : Bytes} → Made b.store (copy_in b t.by) t.call r store' copy' → answer_of r ≡ (step (state_in b) t.by t.call).0
   -- reading any sheet at R finds exactly the bytes that the first R of these commits leave on an empty tree, or refusal 8
   pub found : (R i : ℕ) → R ≤ last (commits g) → i ≤ 31 → Read b.store (commits g) R i
   -- a panel finds at R the same at the greatest released revision up to R, or refusal 8
   pub panel : (R i : ℕ) → R ≤ last (commits g) → i ≤ 31 → PanelRead b.store (commits g) (marks g) R i
   -- an update to R by a seat with nothing pending brings each chosen sheet to the same
   pub brought : (k mask R : ℕ) → 1 ≤ k → k ≤ 4 → (mask ≡ 0 → ⊥) → R ≤ last (commits g) → NothingPending b (commits g) k
-      → {r : Answer} {store' copy' : Bytes} → Made b.store (copy_in b k) (Update mask R) r store' copy' → Brings (out (answer_of r) store' copy') (commits g) mask R
+      → {r : Result Answer Refusal} {store' copy' : Bytes} → Made b.store (copy_in b k) (Update mask R) r store' copy' → Brings (out (answer_of r) store' copy') (commits g) mask R
   -- what is found at R stays so, whatever happens next
   pub lasting : {us : List Event} {b' : Buffers} → Course b us b' → (R i : ℕ) → R ≤ last (commits g) → i ≤ 31 → Read b'.store (commits g) R i
   pub lasting-panel : {us : List Event} {b' : Buffers} → Course b us b' → (R i : ℕ) → R ≤ last (commits g) → i ≤ 31
@@ -62,7 +64,7 @@ pub record CodeEndures (N : ℕ) (b : Buffers) (g : Log) : Type 0 where
   -- a seat whose copy was lost can go on with a fresh one
   pub renewed : (k : ℕ) → 1 ≤ k → k ≤ 4 → Possible b (copy_is k (fresh_copy k))
   -- `clear` leaves the bytes that N and these commits and releases alone fix (W1)
-  pub clears : {copy store' copy' : Bytes} {r : Answer} → Made b.store copy Clears r store' copy' → (answer_of r ≡ done) × (store' ≡ store_bytes N g)
+  pub clears : {copy store' copy' : Bytes} {r : Result Answer Refusal} → Made b.store copy Clears r store' copy' → (answer_of r ≡ done) × (store' ≡ store_bytes N g)
 
 pub record CodePowerCuts : Type 2 where
   -- the functions meet their contracts, of which `Made` and `Read` speak

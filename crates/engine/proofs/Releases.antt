@@ -2,6 +2,7 @@
 -- (`Learnt`, in `Made`), of which no text is repeated here, and that the code meets the contracts (`met`) stands in the same record. What lists of calls leave and find is in Demand3
 -- (`panel`, `lasting-panel`), the bytes in Ordered, power cuts in Cut and PowerCuts.
 -- Assumes nothing.
+use Rattle.std.specs.Prelude.{Result}
 use Prim.Native.Nat.{◌+◌, ◌<◌, ◌^◌, ◌≤◌, ℕ}
 use mathlib.Core.Bool.{◌||◌, not, true}
 use mathlib.Core.List.{List, [], ◌++◌, ◌∷◌}
@@ -37,6 +38,7 @@ use Rattle.engine.proofs.read.Met as read-met
 use Rattle.engine.proofs.read.Reads as read-reads
 use Rattle.engine.proofs.read.Statement as read-statement
 use Rattle.engine.proofs.read_place.Reads as read-place-reads
+use Rattle.model.specs.declared.Refusal.{Refusal}
 
 -- THE STATEMENT
 
@@ -62,16 +64,16 @@ pub record CodeReleases : Type 2 where
   pub panel_read_meets : (M : Type 1) → panel-read-statement.statement M
   pub read_meets : (M : Type 1) → read-statement.statement M
   -- a release answers a number exactly if its line is the first that holds, and then nothing is changed
-  pub numbered : {store copy store' copy' : Bytes} {R seat stamp : ℕ} {r : Answer} → Made store copy (Release R seat stamp) r store' copy'
+  pub numbered : {store copy store' copy' : Bytes} {R seat stamp : ℕ} {r : Result Answer Refusal} → Made store copy (Release R seat stamp) r store' copy'
       → (n : ℕ) → (answer_of r ≡ refused n) ↔ First (release_lines store R seat) n
-  pub unchanged : {store copy store' copy' : Bytes} {R seat stamp : ℕ} {r : Answer} → Made store copy (Release R seat stamp) r store' copy'
+  pub unchanged : {store copy store' copy' : Bytes} {R seat stamp : ℕ} {r : Result Answer Refusal} → Made store copy (Release R seat stamp) r store' copy'
       → (n : ℕ) → answer_of r ≡ refused n → (store' ≡ store) × (copy' ≡ copy)
   -- else it is made
-  pub made : {store copy store' copy' : Bytes} {R seat stamp : ℕ} {r : Answer} → Made store copy (Release R seat stamp) r store' copy' → stamp < 2 ^ 32
+  pub made : {store copy store' copy' : Bytes} {R seat stamp : ℕ} {r : Result Answer Refusal} → Made store copy (Release R seat stamp) r store' copy' → stamp < 2 ^ 32
       → answer_of r ≡ done → Stands store copy R seat stamp store' copy'
   -- "A panel reading R gets what read, or its companion, gives at the greatest released revision up to R": x is that revision, 0 where there is none
   pub places : (store : Bytes) (R i x : ℕ) → R ≤ last (store_history store) → Greatest R (releases (store_marks store)) x
-      → (κs λs : Lfts 1) (s s' t t' : Bor Bytes) (r q : Place) → s.now ≡ store → t.now ≡ store
+      → (κs λs : Lfts 1) (s s' t t' : Bor Bytes) (r q : Result Place Refusal) → s.now ≡ store → t.now ≡ store
       → panel-reads.Learnt κs (s, (R, (i, tt))) r (s', (R, (i, tt))) → read-place-reads.Learnt λs (t, (x, (i, tt))) q (t', (x, (i, tt))) → place_of r ≡ place_of q
   pub parts : (store : Bytes) (R i x : ℕ) → R ≤ last (store_history store) → Greatest R (releases (store_marks store)) x
       → (κs λs : Lfts 1) (s s' t t' r q : Bor Bytes) → s.now ≡ store → t.now ≡ store
@@ -79,7 +81,7 @@ pub record CodeReleases : Type 2 where
   -- "and refusal 8 if there is none"
   pub none-released : (store : Bytes) (R i : ℕ) → first_of (store_conditions store) ≡ none → R ≤ last (store_history store) → i ≤ 31
       → ((x : ℕ) → among x (releases (store_marks store)) ≡ true → x ≤ R → ⊥)
-      → (κs : Lfts 1) (s s' : Bor Bytes) (r : Place) → s.now ≡ store → panel-reads.Learnt κs (s, (R, (i, tt))) r (s', (R, (i, tt))) → place_of r ≡ no_place 8
+      → (κs : Lfts 1) (s s' : Bor Bytes) (r : Result Place Refusal) → s.now ≡ store → panel-reads.Learnt κs (s, (R, (i, tt))) r (s', (R, (i, tt))) → place_of r ≡ no_place 8
 
 -- THE PROOF
 

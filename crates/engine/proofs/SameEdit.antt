@@ -2,6 +2,7 @@
 -- equal tree R's as normal with base R. Refusal 12 loses these cases." Its last sentence, "What any revision shows still follows from the calls, under the new update step.", is demand 3.
 -- Of the calls nothing is known but their functions' own contracts: `Made` is that of Demand3, `Looked` that of Demand1.
 -- Assumes nothing.
+use Rattle.std.specs.Prelude.{Result}
 use Prim.Native.Nat.{◌<◌, ◌≤◌, ℕ}
 use mathlib.Core.Bool.{true}
 use mathlib.Core.Path.{◌∙◌, ◌≡◌, ap, subst, sym}
@@ -19,6 +20,7 @@ use Rattle.model.specs.declared.Answer.{Answer as TheAnswer}
 use Rattle.laws.proofs.SameEdit.{same_edit}
 use Rattle.engine.proofs.Demand1.{CodeDemand1, Looked, code_demand_one, looked_is}
 use Rattle.engine.proofs.Demand3.{CodeDemand3, Made, code_demand_three, made_is}
+use Rattle.model.specs.declared.Refusal.{Refusal}
 
 -- THE STATEMENT
 
@@ -27,16 +29,16 @@ pub record CodeSameEdit : Type 2 where
   pub calls_meet : CodeDemand3
   pub looks_meet : CodeDemand1
   -- what `update` answers and leaves, on a store that is accepted and a working copy that fits it
-  pub updates : {store copy store' copy' : Bytes} {mask R : ℕ} {r : TheAnswer} → Accepted store copy → Made store copy (Update mask R) r store' copy'
+  pub updates : {store copy store' copy' : Bytes} {mask R : ℕ} {r : Result TheAnswer Refusal} → Accepted store copy → Made store copy (Update mask R) r store' copy'
       → Updates (store_history store) (entries_of copy) mask R (out (answer_of r) store' copy')
   -- until then `commit` and `status` answer as before; on a store that has a tail, commit's 14 comes first
-  pub stale : {store copy store' copy' : Bytes} {stamp mask : ℕ} {r : TheAnswer} → Accepted store copy → tail_of store ≡ 0 → Made store copy (Commits stamp mask) r store' copy'
+  pub stale : {store copy store' copy' : Bytes} {stamp mask : ℕ} {r : Result TheAnswer Refusal} → Accepted store copy → tail_of store ≡ 0 → Made store copy (Commits stamp mask) r store' copy'
       → (i : ℕ) → i < 32 → chosen mask i ≡ true → agrees (store_history store) (last (store_history store)) i (get_or (entries_of copy) i empty) ≡ true → answer_of r ≡ refused 11
   pub needs_merge : {store copy : Bytes} {i : ℕ} {a : Answer} → Accepted store copy → Looked store copy (Status i) a
       → (b : ℕ) (x : Bytes) → i < 32 → get_or (entries_of copy) i empty ≡ normal b x → agrees (store_history store) (last (store_history store)) i (normal b x) ≡ true
       → a ≡ status 4 (namer (store_history store) (last (store_history store)) i)
   -- "now count as agreeing": the update is done, and a commit of the same sheets on what it left finds nothing pending
-  pub settles : {store copy store' copy' store'' copy'' : Bytes} {stamp mask R : ℕ} {r q : TheAnswer} → Accepted store copy → Made store copy (Update mask R) r store' copy'
+  pub settles : {store copy store' copy' store'' copy'' : Bytes} {stamp mask R : ℕ} {r q : Result TheAnswer Refusal} → Accepted store copy → Made store copy (Update mask R) r store' copy'
       → Made store' copy' (Commits stamp mask) q store'' copy'' → (mask ≡ 0 → ⊥) → R ≤ last (store_history store) → AllAgree (store_history store) mask R (entries_of copy)
       → (answer_of r ≡ done) × (tail_of store ≡ 0 → answer_of q ≡ refused 10)
 

@@ -2,6 +2,7 @@
 -- companions of read and of show from the store where they don't refuse. Update and the out-of-date rule use it, outcomes unchanged."
 -- Of the calls nothing is known but their functions' own contracts. `Looked` is that of Demand1, `Trace` that of Demand3.
 -- Assumes nothing.
+use Rattle.std.specs.Prelude.{Ok, Result}
 use Prim.Native.Nat.{◌≤◌, ℕ}
 use mathlib.Core.List.{List, [], ◌++◌}
 use mathlib.Core.Path.{◌∙◌, ◌≡◌, ap, subst, sym}
@@ -27,17 +28,18 @@ use Rattle.engine.proofs.Demand3.{CodeDemand3, Trace, code_demand_three, run-app
 use Rattle.engine.proofs.read_place.Reads as read-reads
 use Rattle.engine.proofs.show_place.Reads as show-reads
 use Rattle.engine.proofs.status.Reads as status-reads
+use Rattle.model.specs.declared.Refusal.{Refusal}
 
 -- THE STATEMENT
 
 -- a call on this store gave the number n for sheet i at R: `read_place` at its R, `show_place` and `status` at the last. A part of the working copy and a refusal have no number
 pub data Gave : Bytes → ℕ → ℕ → ℕ → Type 0 where
   reads : {R i n : ℕ} (κs : Lfts 1) (x x' : Bor Bytes) (p : Span)
-      → read-reads.Learnt κs (x, (R, (i, tt))) (InStore p n) (x', (R, (i, tt))) → Gave x.now R i n
+      → read-reads.Learnt κs (x, (R, (i, tt))) (Ok (InStore p n)) (x', (R, (i, tt))) → Gave x.now R i n
   shows : {i n : ℕ} (κs : Lfts 1) (x y x' y' : Bor Bytes) (p : Span)
-      → show-reads.Learnt κs (x, (y, (i, tt))) (InStore p n) (x', (y', (i, tt))) → Gave x.now (last (store_history x.now)) i n
+      → show-reads.Learnt κs (x, (y, (i, tt))) (Ok (InStore p n)) (x', (y', (i, tt))) → Gave x.now (last (store_history x.now)) i n
   statuses : {i : ℕ} (κs : Lfts 1) (x y x' y' : Bor Bytes) (s : Standing)
-      → status-reads.Learnt κs (x, (y, (i, tt))) (Status s) (x', (y', (i, tt))) → Gave x.now (last (store_history x.now)) i s.revision
+      → status-reads.Learnt κs (x, (y, (i, tt))) (Ok (Status s)) (x', (y', (i, tt))) → Gave x.now (last (store_history x.now)) i s.revision
 
 pub record CodeSetBy : Type 2 where
   -- the functions meet their contracts, of which `Gave`, `Looked` and `Trace` speak
@@ -51,11 +53,11 @@ pub record CodeSetBy : Type 2 where
   pub updates : {store : Bytes} {R b i n m : ℕ} → Gave store R i n → Gave store b i m → same_namer (store_history store) i R b ≡ eqb n m
   pub stale : {store : Bytes} {i n : ℕ} → Gave store (last (store_history store)) i n → (b : ℕ) → named_after (store_history store) b i ≡ ltb b n
   -- after any list of calls from fresh buffers it follows from the accepted commits alone
-  pub lists : (N : ℕ) (ts : List Turn) → 2 ≤ N → N ≤ 4_096 → AllValid ts → {rs : List TheAnswer} {b : Buffers} → Trace (fresh_buffers N) ts rs b
+  pub lists : (N : ℕ) (ts : List Turn) → 2 ≤ N → N ≤ 4_096 → AllValid ts → {rs : List (Result TheAnswer Refusal)} {b : Buffers} → Trace (fresh_buffers N) ts rs b
       → {R i n : ℕ} → Gave b.store R i n → LastNamer (accepted (fresh N) ts) R i n
   -- and a number found at R stays: a call after any longer list gives the same
   pub lasting : (N : ℕ) (ts us : List Turn) → 2 ≤ N → N ≤ 4_096 → AllValid ts → AllValid us
-      → {rs qs : List TheAnswer} {b b' : Buffers} → Trace (fresh_buffers N) ts rs b → Trace b us qs b'
+      → {rs qs : List (Result TheAnswer Refusal)} {b b' : Buffers} → Trace (fresh_buffers N) ts rs b → Trace b us qs b'
       → {R i n m : ℕ} → Gave b.store R i n → Gave b'.store R i m → m ≡ n
 
 -- THE PROOF

@@ -6,7 +6,7 @@
 
 ghost use Rattle.std.specs.Prelude.{[], ◌≡◌};
 ghost use Rattle.model.specs.Calls.{add_call, clear_call, clear_cut_call, commit_call, commit_cut_call, copy_call, create_copy, create_store, delete_call, edit_call, log_call, move_call, out, panel_place, part_of, read_place, release_call, revert_call, show_place, size_condition, status_call, update_call};
-ghost use Rattle.model.specs.Types.{action_number, answer_of, created_as, number_of, place_of, source_revision, source_sheet};
+ghost use Rattle.model.specs.Types.{answer_of, created_as, place_of};
 ghost use Rattle.engine.specs.MayCommit.{MayCommit};
 ghost use Rattle.engine.specs.Part.{PartAt, ShownAt};
 ghost use Rattle.engine.specs.Request.{answered, called, requested, tells_of};
@@ -15,10 +15,9 @@ ghost use Rattle.inner.specs.Place.{Inside, Located};
 ghost use Rattle.turns.specs.InTurn.{in_turn_call};
 ghost use Rattle.turns.specs.Turns.{numbers_of};
 
-use entries::Checked;
+use entries::View;
 use inner::{Call, Reply};
-use model::{Action, Answer, Place, Refusal};
-use store::Opened;
+use model::{Answer, Place, Refusal};
 use turns::TurnRecord;
 
 // ---- create
@@ -27,33 +26,26 @@ use turns::TurnRecord;
 fn wrong_size(store: &[u8]) -> bool
     ensures { result ≡ (size_condition store.now).holds }
 {
-    let n = store.len() / 512;
-    if store.len() % 512 != 0 {
-        return true;
-    }
-    if n < 2 {
-        return true;
-    }
-    4096 < n
+    store.len() % 512 != 0 || !(2..=4096).contains(&(store.len() / 512))
 }
 
 // A fresh store: the label and zero blocks.
-pub fn create_store(store: &mut [u8]) -> Answer
+pub fn create_store(store: &mut [u8]) -> Result<Answer, Refusal>
     ensures { created_as result store.new ≡ create_store store.old }
 {
     if wrong_size(store) {
-        return Answer::Refused(Refusal::StoreLength);
+        return Err(Refusal::StoreLength);
     }
     let end = store.len();
     block::clear(store, 0, end);
     block::put(store, 0, 1);
     block::put(store, 1, 1);
     block::seal_at(store, 0);
-    Answer::Done
+    Ok(Answer::Done)
 }
 
 // A fresh working copy: its seat and 32 empty entries.
-pub fn create_copy(copy: &mut [u8], seat: u32) -> Answer
+pub fn create_copy(copy: &mut [u8], seat: u32) -> Result<Answer, Refusal>
     ensures { created_as result copy.new ≡ create_copy copy.old seat }
 {
     workcopy::create_copy(copy, seat)
@@ -62,29 +54,21 @@ pub fn create_copy(copy: &mut [u8], seat: u32) -> Answer
 // ---- looking
 
 // The companion of read: the refusal, or where the bytes of the sheet stand in the store, and the last commit up to the revision that names the sheet.
-pub fn read_place(store: &[u8], revision: u32, sheet: u32) -> Place
+pub fn read_place(store: &[u8], revision: u32, sheet: u32) -> Result<Place, Refusal>
     ensures { Located store.now [] (read_place store.now revision sheet) result }
 {
-    let opened = store::open(store);
-    match opened {
-        Opened::Refused(k) => Place::Refused(k),
-        Opened::Open(h) => inner::place_in(store, h, revision, sheet),
-    }
+    let h = store::open(store)?;
+    inner::place_in(store, h, revision, sheet)
 }
 
 // The part of the store at a place; refused, the empty part at the store's start.
-fn part_at(store: &[u8], place: Place) -> &[u8]
+fn part_at(store: &[u8], place: Result<Place, Refusal>) -> &[u8]
     requires { Inside store.now [] place }
     ensures { PartAt store.entry result (part_of (place_of place)) }
 {
     match place {
-        Place::Refused(_) => &store[0..0],
-        Place::InStore(p, _) => {
-            let a = p.start;
-            let e = a + p.len;
-            &store[a..e]
-        }
-        Place::InCopy(_) => &store[0..0],
+        Ok(Place::InStore(p, _)) => &store[p.start..p.start + p.len],
+        _ => &store[0..0],
     }
 }
 
@@ -97,14 +81,11 @@ pub fn read(store: &[u8], revision: u32, sheet: u32) -> &[u8]
 }
 
 // The companion of a panel's reading: what `read_place` gives at the greatest released revision up to this one, and refusal 8 if there is none.
-pub fn panel_place(store: &[u8], revision: u32, sheet: u32) -> Place
+pub fn panel_place(store: &[u8], revision: u32, sheet: u32) -> Result<Place, Refusal>
     ensures { Located store.now [] (panel_place store.now revision sheet) result }
 {
-    let opened = store::open(store);
-    match opened {
-        Opened::Refused(k) => Place::Refused(k),
-        Opened::Open(h) => inner::panel_in(store, h, revision, sheet),
-    }
+    let h = store::open(store)?;
+    inner::panel_in(store, h, revision, sheet)
 }
 
 // What a panel shows of a sheet, a part of the store; refused, the empty part at the store's start.
@@ -116,25 +97,19 @@ pub fn panel_read(store: &[u8], revision: u32, sheet: u32) -> &[u8]
 }
 
 // Seat, stamp and number of changes of a commit, and what it did to the sheet.
-pub fn log(store: &[u8], revision: u32, sheet: u32) -> Answer
+pub fn log(store: &[u8], revision: u32, sheet: u32) -> Result<Answer, Refusal>
     ensures { answer_of result ≡ log_call store.now revision sheet }
 {
-    let opened = store::open(store);
-    match opened {
-        Opened::Refused(k) => Answer::Refused(k),
-        Opened::Open(h) => inner::log_in(store, h, revision, sheet),
-    }
+    let h = store::open(store)?;
+    inner::log_in(store, h, revision, sheet)
 }
 
 // The companion of show: the refusal, or where the bytes stand, in the working copy or in the store; from the store, the last commit that names the sheet too.
-pub fn show_place<'a>(store: &'a [u8], copy: &'a [u8], sheet: u32) -> Place
+pub fn show_place<'a>(store: &'a [u8], copy: &'a [u8], sheet: u32) -> Result<Place, Refusal>
     ensures { Located store.now copy.now (show_place store.now copy.now sheet) result }
 {
-    let c = entries::check(store, copy);
-    match c {
-        Checked::Refused(k) => Place::Refused(k),
-        Checked::Ready(v) => inner::shown_in(store, copy, v, sheet),
-    }
+    let v = entries::check(store, copy)?;
+    inner::shown_in(store, copy, v, sheet)
 }
 
 // The seat's own bytes, a part of the working copy, or the last revision's, a part of the store; refused, the empty part at the store's start.
@@ -143,122 +118,91 @@ pub fn show<'a>(store: &'a [u8], copy: &'a [u8], sheet: u32) -> &'a [u8]
 {
     let place = show_place(store, copy, sheet);
     match place {
-        Place::Refused(_) => &store[0..0],
-        Place::InStore(p, _) => {
-            let a = p.start;
-            let e = a + p.len;
-            &store[a..e]
-        }
-        Place::InCopy(p) => {
-            let a = p.start;
-            let e = a + p.len;
-            &copy[a..e]
-        }
+        Err(_) => &store[0..0],
+        Ok(Place::InStore(p, _)) => &store[p.start..p.start + p.len],
+        Ok(Place::InCopy(p)) => &copy[p.start..p.start + p.len],
     }
 }
 
 // The status of a sheet's entry, 0 to 8, and the last commit that names the sheet.
-pub fn status<'a>(store: &'a [u8], copy: &'a [u8], sheet: u32) -> Answer
+pub fn status<'a>(store: &'a [u8], copy: &'a [u8], sheet: u32) -> Result<Answer, Refusal>
     ensures { answer_of result ≡ status_call store.now copy.now sheet }
 {
-    let c = entries::check(store, copy);
-    match c {
-        Checked::Refused(k) => Answer::Refused(k),
-        Checked::Ready(v) => inner::status_in(store, copy, v, sheet),
-    }
+    let v = entries::check(store, copy)?;
+    inner::status_in(store, copy, v, sheet)
 }
 
 // ---- changing a working copy
 
 // Add: the empty entry of a sheet becomes added, with these bytes.
-pub fn add(store: &[u8], copy: &mut [u8], sheet: u32, bytes: &[u8]) -> Answer
+pub fn add(store: &[u8], copy: &mut [u8], sheet: u32, bytes: &[u8]) -> Result<Answer, Refusal>
     ensures { out (answer_of result) store.now copy.new ≡ add_call store.now copy.old sheet bytes.now }
 {
-    let c = entries::check(store, copy);
-    match c {
-        Checked::Refused(k) => Answer::Refused(k),
-        Checked::Ready(v) => local::add(copy, sheet, bytes),
-    }
+    let v = entries::check(store, copy)?;
+    local::add(copy, sheet, bytes)
 }
 
 // Edit: other bytes in a normal, added or copied entry.
-pub fn edit(store: &[u8], copy: &mut [u8], sheet: u32, bytes: &[u8]) -> Answer
+pub fn edit(store: &[u8], copy: &mut [u8], sheet: u32, bytes: &[u8]) -> Result<Answer, Refusal>
     ensures { out (answer_of result) store.now copy.new ≡ edit_call store.now copy.old sheet bytes.now }
 {
-    let c = entries::check(store, copy);
-    match c {
-        Checked::Refused(k) => Answer::Refused(k),
-        Checked::Ready(v) => local::edit(copy, sheet, bytes),
-    }
+    let v = entries::check(store, copy)?;
+    local::edit(copy, sheet, bytes)
 }
 
 // Delete: normal becomes deleted, added and copied become empty.
-pub fn delete(store: &[u8], copy: &mut [u8], sheet: u32) -> Answer
+pub fn delete(store: &[u8], copy: &mut [u8], sheet: u32) -> Result<Answer, Refusal>
     ensures { out (answer_of result) store.now copy.new ≡ delete_call store.now copy.old sheet }
 {
-    let c = entries::check(store, copy);
-    match c {
-        Checked::Refused(k) => Answer::Refused(k),
-        Checked::Ready(v) => local::delete(copy, sheet),
-    }
+    let v = entries::check(store, copy)?;
+    local::delete(copy, sheet)
 }
 
 // Copy: the empty entry of sheet `to` becomes a copy of that of sheet `from`.
-pub fn copy_sheet(store: &[u8], copy: &mut [u8], from: u32, to: u32) -> Answer
+pub fn copy_sheet(store: &[u8], copy: &mut [u8], from: u32, to: u32) -> Result<Answer, Refusal>
     ensures { out (answer_of result) store.now copy.new ≡ copy_call store.now copy.old from to }
 {
-    let c = entries::check(store, copy);
-    match c {
-        Checked::Refused(k) => Answer::Refused(k),
-        Checked::Ready(v) => local::copy_sheet(copy, from, to),
-    }
+    let v = entries::check(store, copy)?;
+    local::copy_sheet(copy, from, to)
 }
 
 // Move: copy, then delete `from`.
-pub fn move_sheet(store: &[u8], copy: &mut [u8], from: u32, to: u32) -> Answer
+pub fn move_sheet(store: &[u8], copy: &mut [u8], from: u32, to: u32) -> Result<Answer, Refusal>
     ensures { out (answer_of result) store.now copy.new ≡ move_call store.now copy.old from to }
 {
-    let c = entries::check(store, copy);
-    match c {
-        Checked::Refused(k) => Answer::Refused(k),
-        Checked::Ready(v) => local::move_sheet(copy, from, to),
-    }
+    let v = entries::check(store, copy)?;
+    local::move_sheet(copy, from, to)
 }
 
 // ---- the store and the working copy
 
 // The check before a commit, through the turn record or not: a tail refuses it before the working copy is looked at.
-fn check_to_commit<'a>(store: &'a [u8], copy: &'a [u8]) -> Checked
+fn check_to_commit<'a>(store: &'a [u8], copy: &'a [u8]) -> Result<View, Refusal>
     ensures { MayCommit store.now copy.now result }
 {
-    let opened = store::open(store);
-    match opened {
-        Opened::Refused(k) => Checked::Refused(k),
-        Opened::Open(h) => {
-            if tails::has(store, h.used) {
-                return Checked::Refused(Refusal::Tail);
-            }
-            entries::check_copy(store, copy, h)
-        }
+    let h = store::open(store)?;
+    if tails::has(store, h.used) {
+        return Err(Refusal::Tail);
     }
+    entries::check_copy(store, copy, h)
 }
 
 // Commit, stopped after n block writes with the copy untouched; with n enough for all its writes it is the usual commit.
-pub fn commit_cut(store: &mut [u8], copy: &mut [u8], stamp: u32, mask: u32, n: u32) -> Answer
+pub fn commit_cut(
+    store: &mut [u8],
+    copy: &mut [u8],
+    stamp: u32,
+    mask: u32,
+    n: u32,
+) -> Result<Answer, Refusal>
     ensures { out (answer_of result) store.new copy.new ≡ commit_cut_call store.old copy.old stamp mask n }
 {
-    let c = check_to_commit(store, copy);
-    match c {
-        Checked::Refused(k) => Answer::Refused(k),
-        Checked::Ready(v) => {
-            let filed = filing::commit(store, copy, v, stamp, mask, n as usize);
-            filed.answer
-        }
-    }
+    let v = check_to_commit(store, copy)?;
+    filing::commit(store, copy, v, stamp, mask, n as usize).answer
 }
 
 // Commit: the chosen pending entries become the next revision. It has 33 block writes at most.
-pub fn commit(store: &mut [u8], copy: &mut [u8], stamp: u32, mask: u32) -> Answer
+pub fn commit(store: &mut [u8], copy: &mut [u8], stamp: u32, mask: u32) -> Result<Answer, Refusal>
     ensures { out (answer_of result) store.new copy.new ≡ commit_call store.old copy.old stamp mask }
 {
     commit_cut(store, copy, stamp, mask, 33)
@@ -271,65 +215,47 @@ pub fn commit_in_turn(
     turn: TurnRecord,
     stamp: u32,
     mask: u32,
-) -> Answer
+) -> Result<Answer, Refusal>
     ensures { out (answer_of result) store.new copy.new ≡ in_turn_call store.old copy.old (numbers_of turn) stamp mask }
 {
-    let c = check_to_commit(store, copy);
-    match c {
-        Checked::Refused(k) => Answer::Refused(k),
-        Checked::Ready(v) => {
-            if mask == 0 {
-                return Answer::Refused(Refusal::Range);
-            }
-            if !turns::in_form(turn) {
-                return Answer::Refused(Refusal::Range);
-            }
-            if turn.holder != v.seat {
-                return Answer::Refused(Refusal::NotHolding);
-            }
-            let filed = filing::commit(store, copy, v, stamp, mask, 33);
-            filed.answer
-        }
+    let v = check_to_commit(store, copy)?;
+    if mask == 0 || !turns::in_form(turn) {
+        return Err(Refusal::Range);
     }
+    if turn.holder != v.seat {
+        return Err(Refusal::NotHolding);
+    }
+    filing::commit(store, copy, v, stamp, mask, 33).answer
 }
 
 // Update: the chosen entries come to a revision, unless one is a conflict.
-pub fn update(store: &[u8], copy: &mut [u8], mask: u32, revision: u32) -> Answer
+pub fn update(store: &[u8], copy: &mut [u8], mask: u32, revision: u32) -> Result<Answer, Refusal>
     ensures { out (answer_of result) store.now copy.new ≡ update_call store.now copy.old mask revision }
 {
-    let c = entries::check(store, copy);
-    match c {
-        Checked::Refused(k) => Answer::Refused(k),
-        Checked::Ready(v) => updates::update(store, copy, v, mask, revision),
-    }
+    let v = entries::check(store, copy)?;
+    updates::update(store, copy, v, mask, revision)
 }
 
 // Revert: the chosen entries come back to their base.
-pub fn revert(store: &[u8], copy: &mut [u8], mask: u32) -> Answer
+pub fn revert(store: &[u8], copy: &mut [u8], mask: u32) -> Result<Answer, Refusal>
     ensures { out (answer_of result) store.now copy.new ≡ revert_call store.now copy.old mask }
 {
-    let c = entries::check(store, copy);
-    match c {
-        Checked::Refused(k) => Answer::Refused(k),
-        Checked::Ready(v) => updates::revert(store, copy, v, mask),
-    }
+    let v = entries::check(store, copy)?;
+    updates::revert(store, copy, v, mask)
 }
 
 // ---- the tail
 
 // Clear, stopped after n block writes; with n enough for all its writes it is the usual clear.
-pub fn clear_cut(store: &mut [u8], n: u32) -> Answer
+pub fn clear_cut(store: &mut [u8], n: u32) -> Result<Answer, Refusal>
     ensures { created_as result store.new ≡ clear_cut_call store.old n }
 {
-    let opened = store::open(store);
-    match opened {
-        Opened::Refused(k) => Answer::Refused(k),
-        Opened::Open(h) => inner::clear_in(store, h, n as usize),
-    }
+    let h = store::open(store)?;
+    inner::clear_in(store, h, n as usize)
 }
 
 // Clear: the blocks of the tail, 33 at most, become zero blocks, from the highest down.
-pub fn clear(store: &mut [u8]) -> Answer
+pub fn clear(store: &mut [u8]) -> Result<Answer, Refusal>
     ensures { created_as result store.new ≡ clear_call store.old }
 {
     clear_cut(store, 33)
@@ -338,17 +264,11 @@ pub fn clear(store: &mut [u8]) -> Answer
 // ---- a release
 
 // Release: the poolside panels may show this revision.
-pub fn release(store: &mut [u8], revision: u32, seat: u32, stamp: u32) -> Answer
+pub fn release(store: &mut [u8], revision: u32, seat: u32, stamp: u32) -> Result<Answer, Refusal>
     ensures { created_as result store.new ≡ release_call store.old revision seat stamp }
 {
-    let opened = store::open(store);
-    match opened {
-        Opened::Refused(k) => Answer::Refused(k),
-        Opened::Open(h) => {
-            let filed = inner::release_in(store, h, revision, seat, stamp);
-            filed.answer
-        }
-    }
+    let h = store::open(store)?;
+    inner::release_in(store, h, revision, seat, stamp).answer
 }
 
 // ---- any call
@@ -394,70 +314,5 @@ pub fn call(store: &mut [u8], copy: &mut [u8], request: Request, bytes: &[u8]) -
         Request::CreateStore => Reply::Said(create_store(store)),
         Request::CreateCopy(seat) => Reply::Said(create_copy(copy, seat)),
         Request::Call(named) => call_named(store, copy, named, bytes),
-    }
-}
-
-// ---- answers as numbers
-
-// The document's number of a refusal.
-pub fn number(refusal: Refusal) -> u32
-    ensures { result ≡ number_of refusal }
-{
-    match refusal {
-        Refusal::StoreLength => 1,
-        Refusal::StoreCheck => 2,
-        Refusal::StoreLayout => 3,
-        Refusal::CopyLength => 4,
-        Refusal::CopyLayout => 5,
-        Refusal::Unfit => 6,
-        Refusal::Range => 7,
-        Refusal::Missing => 8,
-        Refusal::Occupied => 9,
-        Refusal::NothingPending => 10,
-        Refusal::OutOfDate => 11,
-        Refusal::Conflict => 12,
-        Refusal::NoRoom => 13,
-        Refusal::Tail => 14,
-        Refusal::NotHolding => 15,
-        Refusal::Released => 16,
-    }
-}
-
-// The action's number.
-pub fn action_number(action: Action) -> u32
-    ensures { result ≡ action_number action }
-{
-    match action {
-        Action::Nothing => 0,
-        Action::Add => 1,
-        Action::Change => 2,
-        Action::Delete => 3,
-        Action::Copy(_) => 4,
-    }
-}
-
-// The source sheet of a copy, else 0.
-pub fn source_sheet(action: Action) -> u32
-    ensures { result ≡ source_sheet action }
-{
-    match action {
-        Action::Nothing => 0,
-        Action::Add => 0,
-        Action::Change => 0,
-        Action::Delete => 0,
-        Action::Copy(s) => s.sheet,
-    }
-}
-
-// The source revision of a copy, else 0.
-pub fn source_revision(action: Action) -> u32
-    ensures { result ≡ source_revision action }
-{
-    match action {
-        Action::Nothing => 0,
-        Action::Add => 0,
-        Action::Change => 0,
-        Action::Delete => 0,
-        Action::Copy(s) => s.revision,
     }
 }

@@ -1,10 +1,10 @@
 -- The bytes of an entry beside those that a block of the store holds.
 -- Assumes nothing.
 use Prim.Native.Nat.{◌*◌, ◌+◌, ◌<◌, ℕ}
-use mathlib.Core.Bool.{Bool, not, true}
+use mathlib.Core.Bool.{Bool, not}
 use mathlib.Core.Option.{none}
 use mathlib.Core.Path.{◌∙◌, ◌≡◌, ap, ap₂, sym}
-use borrow.Author.Tests.{eq-eqb, ne_eqb}
+use borrow.Author.Tests.{ne_eqb}
 use lib.ListN.{drop, take}
 use Rattle.block.specs.Lists.{same}
 use Rattle.model.specs.Calls.{store_conditions}
@@ -20,9 +20,6 @@ use Rattle.search.specs.Find.{Spanned}
 use Rattle.workcopy.specs.Copy.{Reading}
 
 module _ (store copy : Bytes) (i p : ℕ) where
-  pub unlike_none : p ≡ 0 → true ≡ not (is_bytes (bytes_of copy i) (held_in store p))
-  unlike_none z = rw (eq-eqb p 0 z)
-
   pub unlike_held : {x : Span} {y : Entry} {t : Bool} (k m : ℕ) → first_of (store_conditions store) ≡ none → p < used_of store → (p ≡ 0 → ⊥) → Spanned store p x → Reading copy i y
       → k ≡ y.len → m ≡ x.len → t ≡ same (take k (drop (512 * (i + 1) + 16) copy)) (take m (drop x.start store))
       → not t ≡ not (is_bytes (bytes_of copy i) (held_in store p))

@@ -8,13 +8,13 @@ use mathlib.Core.Option.{Option, none, some}
 use mathlib.Core.Path.{◌∙◌, ◌≡◌, ap, refl, subst, sym}
 use native.Mathlib.Omega.{arith}
 use borrow.Author.Tests.{eq-eqb, le-leb, lt-leb, ne_eqb}
-use lib.Dec.{eqb, leb, ltb}
+use lib.Dec.{eqb, leb}
 use lib.ListN.{get_or-eq_default, drop, length, take}
 use Rattle.block.proofs.Says.{eq_or}
 use Rattle.model.specs.Blocks.{bytes_at}
 use Rattle.model.specs.Calls.{store_conditions}
 use Rattle.model.specs.Fitting.{has}
-use Rattle.model.specs.History.{Bytes, Change, History, Tree, applied, last, named_after, namer, newest, present, sheet, tree, tree_from, tree₀}
+use Rattle.model.specs.History.{Bytes, Change, History, Tree, applied, last, namer, newest, present, sheet, tree, tree_from, tree₀}
 use Rattle.model.specs.Refusals.{first_of}
 use Rattle.model.specs.Store.{bare_of, block_count, store_blocks, store_history, used_of}
 use Rattle.model.specs.declared.Span.{Span}
@@ -112,6 +112,3 @@ module _ (store : Bytes) (v : View) (o : Opened store v) where
       let q : f.revision ≡ namer (store_history store) (last (store_history store)) i = ap (λ (f : Found). f.revision) e ∙ ap (λ (r : ℕ). namer (store_history store) r i) o.last in
       let s = unnamed (store_history store) b (last (store_history store)) i (accepted-sound (store_blocks store) (store_history store) B.fit B.lays).0 (omega (arith, o.last)) (omega arith) (omega (arith, q)) in
       subst (λ (t : Option Bytes). Holding store t f.block) (ap (λ (r : ℕ). sheet (store_history store) r i) o.last ∙ s) (holding_found v.last i (omega arith) e)
-
-  pub named-found : (i b : ℕ) {f : Found} → f ≡ found_in store v.last i → ltb b f.revision ≡ named_after (store_history store) b i
-  named-found i b e = ap (λ (f : Found). ltb b f.revision) e ∙ ap (λ (r : ℕ). ltb b (namer (store_history store) r i)) o.last

@@ -1,18 +1,17 @@
--- An entry that was read, state by state: it is the machine's entry in that state, with the bytes of its block; and whether it is pending, out of date, and its status.
+-- An entry that was read, state by state: it is the machine's entry in that state, with the bytes of its block; the status of an empty one, and whether a normal one is modified.
 -- Assumes nothing.
 use Prim.Native.Nat.{◌*◌, ◌+◌, ◌≤◌, ℕ}
-use mathlib.Core.Bool.{Bool, cond, false, not, true}
+use mathlib.Core.Bool.{Bool, cond, not}
 use mathlib.Core.List.{[], ◌∷◌}
 use mathlib.Core.Option.{some}
 use mathlib.Core.Path.{◌∙◌, ◌≡◌, ap, refl, subst, sym}
 use native.Mathlib.Omega.{arith}
 use lib.ListN.{drop, length, take}
 use Rattle.block.specs.Buffer.{block_at}
-use Rattle.model.specs.Entry.{Entry, modified, own_bytes, pending}
+use Rattle.model.specs.Entry.{Entry, modified, own_bytes}
 use Rattle.model.specs.Fitting.{FitsEntry, FitsRows}
-use Rattle.model.specs.History.{Bytes, History, change, is_bytes, last, named_after, names, newest, nothing, present, sheet}
+use Rattle.model.specs.History.{Bytes, History, is_bytes, last, newest, present, sheet}
 use Rattle.model.specs.Machine.{status_of}
-use Rattle.model.specs.Refusals.{out_of_date}
 use Rattle.model.specs.Store.{store_history}
 use Rattle.model.specs.Types.{entry_as}
 use Rattle.model.specs.WorkCopy.{entries_of}
@@ -21,7 +20,7 @@ use Rattle.model.specs.declared.State.{State}
 use Rattle.model.specs.declared.State.TheVariants.{Added, Copied, Deleted, Empty, Normal}
 use Rattle.laws.proofs.Demand2.{demand_two}
 use Rattle.entries.proofs.Checking.{fitting_accepted}
-use Rattle.entries.specs.View.{Fitting, bytes_of, entry_in, normal_status, or_none}
+use Rattle.entries.specs.View.{Fitting, bytes_of, entry_in, or_none}
 use Rattle.entries.specs.declared.View.{View}
 use Rattle.workcopy.proofs.Blocks.{body_at}
 use Rattle.workcopy.specs.Copy.{Carries, Reading, bytes_in}
@@ -87,19 +86,3 @@ module _ (h : History) {copy : Bytes} {i b : ℕ} {e : TheEntry} (r : Reading co
 
   pub is_modified : t ≡ modified h i b own
   is_modified = m ∙ ap (λ (y : Entry). not (is_bytes (or_none (own_bytes y)) (sheet h b i))) (as_read r q)
-
-  pub pending-normal : t ≡ pending h i (entry_in copy i)
-  pending-normal = is_modified ∙ sym (ap (pending h i) (as_read r q) ∙ named (modified h i b own))
-    where
-      named : (z : Bool) → names (cond z (change own) nothing) ≡ z
-      named true = refl
-      named false = refl
-
-  pub unmodified_current : t ≡ false → false ≡ out_of_date h i (entry_in copy i)
-  unmodified_current z = sym (ap (out_of_date h i) (as_read r q) ∙ rw (sym is_modified ∙ z))
-
-  pub modified-stale : {u : Bool} → t ≡ true → u ≡ named_after h b i → u ≡ out_of_date h i (entry_in copy i)
-  modified-stale z n = n ∙ sym (ap (out_of_date h i) (as_read r q) ∙ rw (sym is_modified ∙ z))
-
-  pub status-normal : {l : Bool} {s : ℕ} → l ≡ named_after h b i → s ≡ normal_status l t → s ≡ status_of h i (entry_in copy i)
-  status-normal n z = z ∙ (λ j. normal_status (n j) (is_modified j)) ∙ sym (ap (status_of h i) (as_read r q))

@@ -1,48 +1,47 @@
--- Entry by entry: whether the entries from i on fit the store.
+-- Entry by entry: whether each of them fits the store is whether the working copy does.
 -- Assumes nothing.
-use Prim.Native.Nat.{◌+◌, ◌<◌, ◌≤◌, suc, ℕ}
+use Rattle.std.specs.List.{list_all, range_with_len}
+use Prim.Native.Nat.{◌+◌, suc, ℕ}
 use mathlib.Core.Bool.{Bool, ◌&&◌, ◌||◌, false, not, true}
-use mathlib.Core.List.{List}
-use mathlib.Core.Path.{◌∙◌, ◌≡◌, refl}
+use mathlib.Core.List.{List, [], ◌∷◌}
+use mathlib.Core.Path.{◌∙◌, ◌≡◌, ap, ap₂, refl, sym}
+use native.Mathlib.Nat.{zero-add}
 use native.Mathlib.Numerals.{add-one}
-use lib.ListN.{drop, drop_of_length-le, get_or, length}
-use lib.Seq.{drop-cons}
+use native.Mathlib.Omega.{arith}
+use lib.ListN.{get_or, length}
 use Rattle.model.specs.Entry.{Entry, empty}
 use Rattle.model.specs.Fitting.{fits_entry, fits_store}
 use Rattle.model.specs.History.{Bytes, History}
 use Rattle.model.specs.Rows.{some-row}
+use Rattle.model.specs.Store.{store_history}
 use Rattle.model.specs.WorkCopy.{HoldsCopy, entries_of}
+use Rattle.entries.specs.View.{entry_in}
 use Rattle.workcopy.proofs.Entries.{held}
 use Rattle.workcopy.specs.Copy.{Accepted}
 
-pub fits_left : History → List Entry → ℕ → Bool
-fits_left h es i = not (some-row (λ j e. not (fits_entry h j e)) i (drop i es))
-
 module _ (h : History) (es : List Entry) where
-  pub left-all : fits_left h es 0 ≡ fits_store h es
-  unfolding fits_left
-  left-all = refl
+  abbrev unfit : ℕ → Entry → Bool
+  unfit i e = not (fits_entry h i e)
 
-  left_step : (i : ℕ) → i < length es → fits_left h es i ≡ (fits_entry h i (get_or es i empty) && fits_left h es (i + 1))
-  unfolding fits_left
-  left_step i g =
-      rw (add-one i, drop-cons es i empty g) (split (fits_entry h i (get_or es i empty)) (some-row (λ j e. not (fits_entry h j e)) (suc i) (drop (suc i) es)))
+  -- the entries from i on
+  fits-from : (rest : List Entry) (i : ℕ) → ((j k : ℕ) → j ≡ i + k → get_or es j empty ≡ get_or rest k empty)
+      → list_all (λ j. fits_entry h j (get_or es j empty)) (range_with_len i (length rest)) ≡ not (some-row unfit i rest)
+  fits-from [] i q = refl
+  fits-from (e ∷ rest) i q =
+      ap₂ ◌&&◌ (ap (fits_entry h i) (q i 0 (omega arith)))
+      (fits-from rest (i + 1) (λ j k z. q j (suc k) (omega arith)) ∙ ap (λ (n : ℕ). not (some-row unfit n rest)) (add-one i))
+      ∙ split (fits_entry h i e) (some-row unfit (suc i) rest)
     where
-      split : (a b : Bool) → not (not a || b) ≡ (a && not b)
+      split : (a b : Bool) → (a && not b) ≡ not (not a || b)
       split true b = refl
       split false b = refl
 
-  pub left_fails : (i : ℕ) → i < length es → fits_entry h i (get_or es i empty) ≡ false → fits_left h es i ≡ false
-  left_fails i g e = left_step i g ∙ rw e
-
-  pub left_passes : (i : ℕ) → i < length es → fits_entry h i (get_or es i empty) ≡ true → fits_left h es i ≡ fits_left h es (i + 1)
-  left_passes i g e = left_step i g ∙ rw e
-
-  pub left-none : (i : ℕ) → length es ≤ i → fits_left h es i ≡ true
-  unfolding fits_left
-  left-none i g = rw (drop_of_length-le es g)
+  fits-each : {n : ℕ} → length es ≡ n → list_all (λ j. fits_entry h j (get_or es j empty)) (range_with_len 0 n) ≡ fits_store h es
+  fits-each {n} e =
+      ap (λ (n : ℕ). list_all (λ j. fits_entry h j (get_or es j empty)) (range_with_len 0 n)) (sym e)
+      ∙ fits-from es 0 (λ j k z. ap (λ (j : ℕ). get_or es j empty) (z ∙ zero-add k))
 
 -- an accepted copy has 32 entries
-pub entries-count : (copy : Bytes) → Accepted copy → length (entries_of copy) ≡ 32
+pub all_fit : (store copy : Bytes) → Accepted copy → list_all (λ i. fits_entry (store_history store) i (entry_in copy i)) (range_with_len 0 32) ≡ fits_store (store_history store) (entries_of copy)
 unfolding HoldsCopy
-entries-count copy a = (held copy a).0
+all_fit store copy a = fits-each (store_history store) (entries_of copy) (held copy a).0

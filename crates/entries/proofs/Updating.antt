@@ -6,7 +6,7 @@ use mathlib.Core.Logic.{inl, inr}
 use mathlib.Core.Option.{Option, none, some}
 use mathlib.Core.Path.{◌∙◌, ◌≡◌, ap, ap₂, refl, subst, sym}
 use native.Mathlib.Omega.{arith}
-use borrow.Author.Tests.{eq-eqb, ne_eqb, not-false, not-true}
+use borrow.Author.Tests.{eq-eqb, ne_eqb}
 use lib.Dec.{eqb}
 use Rattle.block.proofs.Says.{eq_or}
 use Rattle.block.specs.Buffer.{block_at}
@@ -19,27 +19,19 @@ use Rattle.model.specs.Types.{entry_as}
 use Rattle.model.specs.declared.Entry.{Entry as TheEntry}
 use Rattle.model.specs.declared.Source.{Source}
 use Rattle.model.specs.declared.State.{State}
-use Rattle.model.specs.declared.State.TheVariants.{Added, Copied, Deleted, Empty, Normal}
+use Rattle.model.specs.declared.State.TheVariants.{Added, Copied, Empty, Normal}
 use Rattle.laws.proofs.Trees.{has_bytes}
 use Rattle.entries.proofs.Looking.{found_none, found_some, found-used, holding_found}
 use Rattle.entries.proofs.States.{as_read, is_modified, own_read}
 use Rattle.entries.specs.View.{Opened, Stands, UpdateIs, agreed_as, bytes_of, held_in, taken_as, updated_as}
 use Rattle.entries.specs.declared.Update.{Update}
-use Rattle.entries.specs.declared.Update.TheVariants.{Conflict, Rebase, Stay, Take}
+use Rattle.entries.specs.declared.Update.TheVariants.{Rebase, Stay}
 use Rattle.entries.specs.declared.View.{View}
 use Rattle.search.specs.Find.{found_in}
 use Rattle.search.specs.declared.Found.{Found}
 use Rattle.workcopy.specs.Copy.{Reading, bytes_in}
 
--- whether an entry's bytes are those of block p, where t says that they differ
-module _ (store copy : Bytes) (i p : ℕ) {t : Bool} (m : t ≡ not (is_bytes (bytes_of copy i) (held_in store p))) where
-  pub agreed-not : t ≡ true → Conflict ≡ agreed_as (is_bytes (bytes_of copy i) (held_in store p)) p
-  agreed-not z = rw (not-true (is_bytes (bytes_of copy i) (held_in store p)) (sym m ∙ z))
-
-  pub agreed_so : t ≡ false → Take p ≡ agreed_as (is_bytes (bytes_of copy i) (held_in store p)) p
-  agreed_so z = rw (not-false (is_bytes (bytes_of copy i) (held_in store p)) (sym m ∙ z))
-
-module _ (store copy : Bytes) (v : View) (o : Opened store v) (R i : ℕ) (le : R ≤ v.last) {f : Found} (found : f ≡ found_in store R i) {e : TheEntry} (r : Reading copy i e) where
+module _ {store copy : Bytes} {v : View} (o : Opened store v) {R i : ℕ} (le : R ≤ v.last) {f : Found} (found : f ≡ found_in store R i) {e : TheEntry} (r : Reading copy i e) where
   abbrev h : History
   h = store_history store
 
@@ -125,13 +117,6 @@ module _ (store copy : Bytes) (v : View) (o : Opened store v) (R i : ℕ) (le : 
 
       pub agreed-modified : {u : Update} → t ≡ true → (f.revision ≡ g.revision → ⊥) → u ≡ agreed_as (is_bytes (bytes_of copy i) (held_in store f.block)) f.block → UpdateIs store copy R i u
       agreed-modified {u} z x w = as_state u (agreed-inside w) q (agreed-means w (own_read r q refl) (normal b own) ∙ rw (sym changed ∙ z, same_not b base x))
-
-    module _ (q : e.state ≡ Deleted b) where
-      pub update_deleted : f.revision ≡ g.revision → UpdateIs store copy R i Rebase
-      update_deleted x = as_state Rebase tt q (rw (same_so b base x))
-
-      pub conflict-deleted : (f.revision ≡ g.revision → ⊥) → UpdateIs store copy R i Conflict
-      conflict-deleted x = as_state Conflict tt q (rw (same_not b base x))
 
   -- an added or copied entry stays where tree R lacks the sheet
   module _ (z : f.block ≡ 0) where

@@ -1,6 +1,6 @@
 -- What is known of buffers that are accepted; what `check` answers; what update makes of an entry.
 -- Assumes nothing.
-use Rattle.std.specs.Prelude.{◌<◌, ℕ, Bool, cond, true, [], ◌++◌, ◌≡◌, eqb, get_or}
+use Rattle.std.specs.Prelude.{◌<◌, ℕ, Bool, cond, true, [], ◌++◌, ◌≡◌, eqb, get_or, Err, Ok, Result}
 use Rattle.std.proofs.Math.Option.{Option, none, some}
 use Rattle.model.specs.Blocks.{bytes_at}
 use Rattle.model.specs.Calls.{Out, change_by, copy_conditions, out, side_in, store_conditions}
@@ -17,8 +17,6 @@ use Rattle.model.specs.WorkCopy.{entries_of, seat_of}
 use Rattle.model.specs.declared.Refusal.{Refusal}
 use Rattle.model.specs.declared.Refusal.TheVariants.{CopyLayout, CopyLength, StoreCheck, StoreLayout, StoreLength, Unfit}
 use Rattle.model.specs.declared.Standing.{Standing}
-use Rattle.entries.specs.declared.Checked.{Checked}
-use Rattle.entries.specs.declared.Checked.TheVariants.{Ready, Refused}
 use Rattle.entries.specs.declared.Update.{Update}
 use Rattle.entries.specs.declared.Update.TheVariants.{Clear, Conflict, Rebase, Stay, Take}
 use Rattle.entries.specs.declared.View.{View}
@@ -49,12 +47,12 @@ abbrev pub refusal_as : ℕ → Refusal
 refusal_as n =
     cond (eqb n 1) StoreLength (cond (eqb n 2) StoreCheck (cond (eqb n 3) StoreLayout (cond (eqb n 4) CopyLength (cond (eqb n 5) CopyLayout Unfit))))
 
-abbrev pub checked_by : Option ℕ → View → Checked
-checked_by none v = Ready v
-checked_by (some n) v = Refused (refusal_as n)
+abbrev pub checked_by : Option ℕ → View → Result View Refusal
+checked_by none v = Ok v
+checked_by (some n) v = Err (refusal_as n)
 
 -- the first of the lines 1 to 6 that holds, or what is known of the two buffers
-unfoldable pub check_of : Bytes → Bytes → Checked
+unfoldable pub check_of : Bytes → Bytes → Result View Refusal
 check_of store copy = checked_by (first_of (store_conditions store ++ copy_conditions store copy)) (view_of store copy)
 
 -- entry i of a working copy, and its bytes, none where it has none
@@ -130,5 +128,5 @@ unfoldable pub inner_out : Bytes → Bytes → Call → Out
 inner_out store copy c = change_by (first_of (conditions (side_in store copy) c)) store copy c
 
 -- what the code answers, beside the buffers that it leaves
-abbrev pub out_as : Answer → Bytes → Bytes → Out
+abbrev pub out_as : Result Answer Refusal → Bytes → Bytes → Out
 out_as a store copy = out (answer_of a) store copy

@@ -7,13 +7,12 @@ ghost use Rattle.model.specs.Calls.{store_conditions};
 ghost use Rattle.model.specs.Entry.{pending};
 ghost use Rattle.model.specs.Fitting.{fits_entry, fits_store};
 ghost use Rattle.model.specs.Fitting.{has as has_sheet};
-ghost use Rattle.model.specs.History.{is_bytes, named_after, newest, present, sheet};
+ghost use Rattle.model.specs.History.{is_bytes, named_after, sheet};
 ghost use Rattle.model.specs.Machine.{status_of};
 ghost use Rattle.model.specs.Refusals.{first_of, out_of_date};
 ghost use Rattle.model.specs.Store.{store_history, used_of};
 ghost use Rattle.model.specs.WorkCopy.{entries_of};
 ghost use Rattle.store.specs.Opened.{open_of};
-ghost use Rattle.store.specs.declared.Opened.TheVariants.{Open};
 ghost use Rattle.search.specs.Find.{found_in};
 ghost use Rattle.workcopy.specs.Copy.{Accepted as CopyAccepted};
 ghost use Rattle.entries.specs.View.{Fitting, Holding, Opened, UpdateIs, Viewed, agreed_as, bytes_of, check_of, entry_in, held_in, normal_status, standing_of, taken_as};
@@ -31,33 +30,31 @@ pub struct View {
     pub seat: u32,
 }
 
+// What tree r has of sheet i, and the last commit up to r that names the sheet.
+fn look_up(store: &[u8], v: View, r: usize, i: usize) -> Found
+    requires { Opened store.now v × (r ≤ v.last) × (i < 32) }
+    ensures is { result ≡ found_in store.now r i }
+    ensures holds { Holding store.now (sheet (store_history store.now) r i) result.block }
+{
+    search::look_up(store, v.n, v.used, r, i)
+}
+
 // Whether revision r is at most the last and its tree has sheet i.
 fn has(store: &[u8], v: View, r: usize, i: usize) -> bool
     requires { Opened store.now v }
     ensures { result ≡ has_sheet (store_history store.now) r i }
 {
-    if v.last < r {
-        return false;
-    }
-    if 31 < i {
-        return false;
-    }
-    let f = search::look_up(store, v.n, v.used, r, i);
-    f.block != 0
+    r <= v.last && i < 32 && look_up(store, v, r, i).block != 0
 }
 
 // Whether the base or the source of entry i is there.
-fn fits_at<'a>(store: &'a [u8], copy: &'a [u8], v: View, i: usize) -> bool
+fn fits_at(store: &[u8], copy: &[u8], v: View, i: usize) -> bool
     requires { Viewed store.now copy.now v × (i < 32) }
     ensures { result ≡ fits_entry (store_history store.now) i (entry_in copy.now i) }
 {
-    let e = workcopy::entry_at(copy, i);
-    let state = e.state;
-    match state {
-        State::Empty => true,
-        State::Normal(base) => has(store, v, base as usize, i),
-        State::Added => true,
-        State::Deleted(base) => has(store, v, base as usize, i),
+    match workcopy::entry_at(copy, i).state {
+        State::Empty | State::Added => true,
+        State::Normal(base) | State::Deleted(base) => has(store, v, base as usize, i),
         State::Copied(s) => has(store, v, s.revision as usize, s.sheet as usize),
     }
 }
@@ -67,72 +64,50 @@ pub fn fits<'a>(store: &'a [u8], copy: &'a [u8], v: View) -> bool
     requires { Viewed store.now copy.now v }
     ensures { result ≡ fits_store (store_history store.now) (entries_of copy.now) }
 {
-    let mut i: usize = 0;
-    while i < 32 {
-        if !fits_at(store, copy, v, i) {
-            return false;
-        }
-        i += 1;
-    }
-    true
-}
-
-#[derive(Clone, Copy)]
-pub enum Checked {
-    Refused(Refusal),
-    Ready(View),
+    (0..32).all(|i| fits_at(store, copy, v, i))
 }
 
 // Refusals 4 to 6 in the document's order, or what is known of the two buffers, where the store is open.
-pub fn check_copy<'a>(store: &'a [u8], copy: &'a [u8], h: Header) -> Checked
-    requires { open_of store.now ≡ Open h }
+pub fn check_copy<'a>(store: &'a [u8], copy: &'a [u8], h: Header) -> Result<View, Refusal>
+    requires { open_of store.now ≡ Ok h }
     ensures { result ≡ check_of store.now copy.now }
 {
-    let a = workcopy::accept(copy);
-    match a {
-        workcopy::Acceptance::Refused(k) => Checked::Refused(k),
-        workcopy::Acceptance::Seat(seat) => {
-            let v = View {
-                n: store.len() / 512,
-                used: h.used,
-                last: h.last,
-                seat,
-            };
-            if fits(store, copy, v) {
-                Checked::Ready(v)
-            } else {
-                Checked::Refused(Refusal::Unfit)
-            }
-        }
+    let seat = workcopy::accept(copy)?;
+    let v = View {
+        n: store.len() / 512,
+        used: h.used,
+        last: h.last,
+        seat,
+    };
+    if !fits(store, copy, v) {
+        return Err(Refusal::Unfit);
     }
+    Ok(v)
 }
 
 // Refusals 1 to 6 in the document's order, or what is known of the two buffers.
-pub fn check<'a>(store: &'a [u8], copy: &'a [u8]) -> Checked
+pub fn check<'a>(store: &'a [u8], copy: &'a [u8]) -> Result<View, Refusal>
     ensures { result ≡ check_of store.now copy.now }
 {
-    let o = store::open(store);
-    match o {
-        store::Opened::Refused(k) => Checked::Refused(k),
-        store::Opened::Open(h) => check_copy(store, copy, h),
-    }
+    let h = store::open(store)?;
+    check_copy(store, copy, h)
 }
 
 // Whether the bytes of entry i are not those that block p holds, where 0 stands for no sheet.
-fn unlike<'a>(store: &'a [u8], copy: &'a [u8], i: usize, p: usize) -> bool
+fn unlike(store: &[u8], copy: &[u8], i: usize, p: usize) -> bool
     requires { (first_of (store_conditions store.now) ≡ none) × CopyAccepted copy.now × (i < 32) × (p < used_of store.now) }
     ensures { result ≡ not (is_bytes (bytes_of copy.now i) (held_in store.now p)) }
 {
     if p == 0 {
         return true;
     }
-    let q = search::span_at(store, p);
-    let a = q.start;
-    let b = a + q.len;
+    let held = search::span_at(store, p);
     let e = workcopy::entry_at(copy, i);
-    let c = 512 * (i + 1) + 16;
-    let d = c + e.len;
-    !shape::same_part(&copy[c..d], &store[a..b])
+    let at = 512 * (i + 1) + 16;
+    !shape::same_part(
+        &copy[at..at + e.len],
+        &store[held.start..held.start + held.len],
+    )
 }
 
 // Whether the bytes of entry i are not those of sheet s at revision r.
@@ -140,8 +115,7 @@ pub fn differs<'a>(store: &'a [u8], copy: &'a [u8], v: View, i: usize, r: usize,
     requires { Viewed store.now copy.now v × (i < 32) × (r ≤ v.last) × (s < 32) }
     ensures { result ≡ not (is_bytes (bytes_of copy.now i) (sheet (store_history store.now) r s)) }
 {
-    let f = search::look_up(store, v.n, v.used, r, s);
-    unlike(store, copy, i, f.block)
+    unlike(store, copy, i, look_up(store, v, r, s).block)
 }
 
 // Whether a commit after revision b names sheet i.
@@ -149,18 +123,7 @@ fn named_since(store: &[u8], v: View, b: u32, i: usize) -> bool
     requires { Opened store.now v × (i < 32) }
     ensures { result ≡ named_after (store_history store.now) b i }
 {
-    let last = v.last;
-    let f = search::look_up(store, v.n, v.used, last, i);
-    b < f.revision
-}
-
-// Whether the last tree has sheet i.
-fn in_newest(store: &[u8], v: View, i: usize) -> bool
-    requires { Opened store.now v × (i < 32) }
-    ensures { result ≡ present (newest (store_history store.now) i) }
-{
-    let f = search::look_up(store, v.n, v.used, v.last, i);
-    f.block != 0
+    b < look_up(store, v, v.last, i).revision
 }
 
 // Whether entry i is pending.
@@ -168,14 +131,10 @@ pub fn is_pending<'a>(store: &'a [u8], copy: &'a [u8], v: View, i: usize) -> boo
     requires { Fitting store.now copy.now v × (i < 32) }
     ensures { result ≡ pending (store_history store.now) i (entry_in copy.now i) }
 {
-    let e = workcopy::entry_at(copy, i);
-    let state = e.state;
-    match state {
+    match workcopy::entry_at(copy, i).state {
         State::Empty => false,
         State::Normal(base) => differs(store, copy, v, i, base as usize, i),
-        State::Added => true,
-        State::Deleted(_) => true,
-        State::Copied(_) => true,
+        _ => true,
     }
 }
 
@@ -184,19 +143,13 @@ pub fn is_stale<'a>(store: &'a [u8], copy: &'a [u8], v: View, i: usize) -> bool
     requires { Fitting store.now copy.now v × (i < 32) }
     ensures { result ≡ out_of_date (store_history store.now) i (entry_in copy.now i) }
 {
-    let e = workcopy::entry_at(copy, i);
-    let state = e.state;
-    match state {
+    match workcopy::entry_at(copy, i).state {
         State::Empty => false,
         State::Normal(base) => {
-            if !differs(store, copy, v, i, base as usize, i) {
-                return false;
-            }
-            named_since(store, v, base, i)
+            differs(store, copy, v, i, base as usize, i) && named_since(store, v, base, i)
         }
-        State::Added => in_newest(store, v, i),
         State::Deleted(base) => named_since(store, v, base, i),
-        State::Copied(_) => in_newest(store, v, i),
+        State::Added | State::Copied(_) => has(store, v, v.last, i),
     }
 }
 
@@ -204,16 +157,12 @@ pub fn is_stale<'a>(store: &'a [u8], copy: &'a [u8], v: View, i: usize) -> bool
 fn normal_status(later: bool, modified: bool) -> u32
     ensures { result ≡ normal_status later modified }
 {
-    if later {
-        if modified {
-            return 4;
-        }
-        return 3;
+    match (later, modified) {
+        (true, true) => 4,
+        (true, false) => 3,
+        (false, true) => 2,
+        (false, false) => 1,
     }
-    if modified {
-        return 2;
-    }
-    1
 }
 
 // The block that holds sheet i at revision b, 0 for none, where f is what the last tree has: the same block, unless a commit after b names the sheet.
@@ -222,26 +171,20 @@ fn block_at(store: &[u8], v: View, f: Found, b: u32, i: usize) -> usize
     ensures { Holding store.now (sheet (store_history store.now) b i) result }
 {
     if b < f.revision {
-        let g = search::look_up(store, v.n, v.used, b as usize, i);
-        return g.block;
+        look_up(store, v, b as usize, i).block
+    } else {
+        f.block
     }
-    f.block
 }
 
 // The status of entry i, where f is what the last tree has of its sheet.
-fn status_of<'a>(store: &'a [u8], copy: &'a [u8], v: View, i: usize, f: Found) -> u32
+fn status_of(store: &[u8], copy: &[u8], v: View, i: usize, f: Found) -> u32
     requires { Fitting store.now copy.now v × (f ≡ found_in store.now v.last i) × (i < 32) }
     ensures { result ≡ status_of (store_history store.now) i (entry_in copy.now i) }
 {
-    let e = workcopy::entry_at(copy, i);
-    let state = e.state;
-    match state {
-        State::Empty => {
-            if f.block != 0 {
-                return 8;
-            }
-            0
-        }
+    match workcopy::entry_at(copy, i).state {
+        State::Empty if f.block != 0 => 8,
+        State::Empty => 0,
         State::Normal(base) => {
             let p = block_at(store, v, f, base, i);
             let modified = unlike(store, copy, i, p);
@@ -258,7 +201,7 @@ pub fn status_at<'a>(store: &'a [u8], copy: &'a [u8], v: View, i: usize) -> Stan
     requires { Fitting store.now copy.now v × (i < 32) }
     ensures { result ≡ standing_of (store_history store.now) i (entry_in copy.now i) }
 {
-    let newest = search::look_up(store, v.n, v.used, v.last, i);
+    let newest = look_up(store, v, v.last, i);
     let status = status_of(store, copy, v, i, newest);
     Standing {
         status,
@@ -280,21 +223,22 @@ pub enum Update {
 fn taken(p: usize) -> Update
     ensures { result ≡ taken_as p }
 {
-    if p == 0 {
-        return Update::Clear;
+    match p {
+        0 => Update::Clear,
+        _ => Update::Take(p),
     }
-    Update::Take(p)
 }
 
 // A pending entry whose bytes are those that block p holds is taken from there; any other is a conflict.
-fn agreed<'a>(store: &'a [u8], copy: &'a [u8], i: usize, p: usize) -> Update
+fn agreed(store: &[u8], copy: &[u8], i: usize, p: usize) -> Update
     requires { (first_of (store_conditions store.now) ≡ none) × CopyAccepted copy.now × (i < 32) × (p < used_of store.now) }
     ensures { result ≡ agreed_as (is_bytes (bytes_of copy.now i) (held_in store.now p)) p }
 {
-    if !unlike(store, copy, i, p) {
-        return Update::Take(p);
+    if unlike(store, copy, i, p) {
+        Update::Conflict
+    } else {
+        Update::Take(p)
     }
-    Update::Conflict
 }
 
 // What an update to r makes of entry i: one look at tree r, and one at its base's, for the block and the last commit that names the sheet.
@@ -302,40 +246,29 @@ pub fn update_of<'a>(store: &'a [u8], copy: &'a [u8], v: View, r: usize, i: usiz
     requires { Fitting store.now copy.now v × (i < 32) × (r ≤ v.last) }
     ensures { UpdateIs store.now copy.now r i result }
 {
-    let to = search::look_up(store, v.n, v.used, r, i);
+    let to = look_up(store, v, r, i);
     let p = to.block;
-    let e = workcopy::entry_at(copy, i);
-    let state = e.state;
-    match state {
+    match workcopy::entry_at(copy, i).state {
         State::Empty => taken(p),
         State::Normal(base) => {
-            let from = search::look_up(store, v.n, v.used, base as usize, i);
+            let from = look_up(store, v, base as usize, i);
             if !unlike(store, copy, i, from.block) {
-                return taken(p);
+                taken(p)
+            } else if to.revision == from.revision {
+                Update::Rebase
+            } else {
+                agreed(store, copy, i, p)
             }
-            if to.revision == from.revision {
-                return Update::Rebase;
-            }
-            agreed(store, copy, i, p)
         }
-        State::Added => {
-            if p == 0 {
-                return Update::Stay;
-            }
-            agreed(store, copy, i, p)
-        }
+        State::Added | State::Copied(_) if p == 0 => Update::Stay,
+        State::Added | State::Copied(_) => agreed(store, copy, i, p),
         State::Deleted(base) => {
-            let from = search::look_up(store, v.n, v.used, base as usize, i);
+            let from = look_up(store, v, base as usize, i);
             if to.revision == from.revision {
-                return Update::Rebase;
+                Update::Rebase
+            } else {
+                Update::Conflict
             }
-            Update::Conflict
-        }
-        State::Copied(_) => {
-            if p == 0 {
-                return Update::Stay;
-            }
-            agreed(store, copy, i, p)
         }
     }
 }

@@ -1,5 +1,6 @@
 -- The answers of commit, one law for each way through its tests. What is out of date is pending, so that refusal 11 may be tested before refusal 10.
 -- Assumes nothing.
+use Rattle.std.specs.Prelude.{Err, Ok, Result}
 use Prim.Native.Nat.{◌+◌, ◌<◌, suc, ℕ}
 use mathlib.Core.Bool.{Bool, ◌&&◌, ◌||◌, cond, false, not, true}
 use mathlib.Core.List.{List, [], ◌∷◌}
@@ -18,14 +19,14 @@ use Rattle.model.specs.Shows.{Accepted}
 use Rattle.model.specs.Store.{store_history, tail_of}
 use Rattle.model.specs.Types.{number_of}
 use Rattle.model.specs.WorkCopy.{HoldsCopy, copy_bytes, entries_of, seat_of}
-use Rattle.model.specs.declared.Answer.TheVariants.{Refused, Revision as TheRevision, Stopped as TheStopped}
+use Rattle.model.specs.declared.Answer.TheVariants.{Revision as TheRevision, Stopped as TheStopped}
 use Rattle.model.specs.declared.Refusal.{Refusal}
-use Rattle.model.specs.declared.Refusal.TheVariants.{NoRoom as NoSpace, NothingPending, OutOfDate, Range}
+use Rattle.model.specs.declared.Refusal.TheVariants.{NoRoom, NothingPending, OutOfDate, Range}
 use Rattle.laws.proofs.Accepted.{accepted-kept, accepted_seen, both}
 use Rattle.commits.proofs.Answers.{told-done, told-no_room, told-nothing, told-stopped}
 use Rattle.commits.specs.Outcome.{Answered, Asked, RightFlags, enough}
 use Rattle.commits.specs.declared.Outcome.{Outcome}
-use Rattle.commits.specs.declared.Outcome.TheVariants.{Done, NoRoom, Nothing, Stopped}
+use Rattle.commits.specs.declared.Outcome.TheVariants.{Done, Stopped}
 use Rattle.entries.proofs.Checking.{fitting_accepted}
 use Rattle.entries.specs.View.{Fitting, out_as}
 use Rattle.entries.specs.declared.View.{View}
@@ -68,31 +69,45 @@ module _ (store copy : Bytes) (stamp mask n : ℕ) where
   abbrev d : Side
   d = side_in store copy
 
-  refused_is : (r : Refusal) → first_of (conditions d (CommitsCut stamp mask n)) ≡ some (number_of r) → out_as (Refused r) store copy ≡ inner_cut store copy stamp mask n
+  refused_is : (r : Refusal) → first_of (conditions d (CommitsCut stamp mask n)) ≡ some (number_of r) → out_as (Err r) store copy ≡ inner_cut store copy stamp mask n
   unfolding inner_cut
   refused_is r e = sym (ap (λ (o : Option ℕ). stopped_by o store copy stamp mask n) e)
 
-  pub commit-none : mask ≡ 0 → out_as (Refused Range) store copy ≡ inner_cut store copy stamp mask n
+  pub commit-none : mask ≡ 0 → out_as (Err Range) store copy ≡ inner_cut store copy stamp mask n
   commit-none z = refused_is Range (rw (eq-eqb mask 0 z))
 
   module _ (some-mask : mask ≡ 0 → ⊥) where
-    pub commit-nothing : {o : Outcome} {store' : Bytes} → o ≡ Nothing → Answered store copy store' stamp mask n o
-        → out_as (Refused NothingPending) store' copy ≡ inner_cut store copy stamp mask n
+    pub commit-nothing : {o : Result Outcome Refusal} {store' : Bytes} → o ≡ Err NothingPending → Answered store copy store' stamp mask n o
+        → out_as (Err NothingPending) store' copy ≡ inner_cut store copy stamp mask n
     commit-nothing {store' = store'} e A =
         let t = told-nothing store copy store' stamp mask n (subst (Answered store copy store' stamp mask n) e A) in
-        ap (λ (x : Bytes). out_as (Refused NothingPending) x copy) t.1 ∙ refused_is NothingPending (rw (ne_eqb mask 0 some-mask, t.0))
+        ap (λ (x : Bytes). out_as (Err NothingPending) x copy) t.1 ∙ refused_is NothingPending (rw (ne_eqb mask 0 some-mask, t.0))
 
     module _ {b : Bool} (q : b ≡ some_stale d mask) where
-      pub commit-stale : b ≡ true → out_as (Refused OutOfDate) store copy ≡ inner_cut store copy stamp mask n
+      pub commit-stale : b ≡ true → out_as (Err OutOfDate) store copy ≡ inner_cut store copy stamp mask n
       commit-stale z =
           let s : some_stale d mask ≡ true = sym q ∙ z in
           refused_is OutOfDate (rw (ne_eqb mask 0 some-mask, stale-chosen d mask s, s))
 
-      module _ (z : b ≡ false) {o : Outcome} {store' : Bytes} (A : Answered store copy store' stamp mask n o) where
-        pub commit-no_room : o ≡ NoRoom → out_as (Refused NoSpace) store' copy ≡ inner_cut store copy stamp mask n
+      module _ (z : b ≡ false) {o : Result Outcome Refusal} {store' : Bytes} (A : Answered store copy store' stamp mask n o) where
+        pub commit-no_room : o ≡ Err NoRoom → out_as (Err NoRoom) store' copy ≡ inner_cut store copy stamp mask n
         commit-no_room e =
             let t = told-no_room store copy store' stamp mask n (subst (Answered store copy store' stamp mask n) e A) in
-            ap (λ (x : Bytes). out_as (Refused NoSpace) x copy) t.2 ∙ refused_is NoSpace (rw (ne_eqb mask 0 some-mask, t.0, sym q ∙ z, t.1))
+            ap (λ (x : Bytes). out_as (Err NoRoom) x copy) t.2 ∙ refused_is NoRoom (rw (ne_eqb mask 0 some-mask, t.0, sym q ∙ z, t.1))
+
+        -- what refuses it then is line 10 or 13
+        pub commit-refused : {k : Refusal} → o ≡ Err k → out_as (Err k) store' copy ≡ inner_cut store copy stamp mask n
+        commit-refused {k} e = go (nothing_chosen d mask) (no_room d mask) (enough store copy stamp mask n) _ _ A.says
+          where
+            is : (j : Refusal) → o ≡ Err j → out_as (Err j) store' copy ≡ inner_cut store copy stamp mask n → out_as (Err k) store' copy ≡ inner_cut store copy stamp mask n
+            is j q h = subst (λ (x : Refusal). out_as (Err x) store' copy ≡ inner_cut store copy stamp mask n) (cc) h
+
+            go : (x y w : Bool) (o₁ o₂ : Outcome) → o ≡ cond x (Err NothingPending) (cond y (Err NoRoom) (cond w (Ok o₁) (Ok o₂)))
+                → out_as (Err k) store' copy ≡ inner_cut store copy stamp mask n
+            go true y w o₁ o₂ q = is NothingPending q (commit-nothing q A)
+            go false true w o₁ o₂ q = is NoRoom q (commit-no_room q)
+            go false false true o₁ o₂ q = cc
+            go false false false o₁ o₂ q = cc
 
         -- no line refuses it: n is enough, or it stops
         by_enough : {c : Bool} → nothing_chosen d mask ≡ false → no_room d mask ≡ false → enough store copy stamp mask n ≡ c
@@ -104,16 +119,16 @@ module _ (store copy : Bytes) (stamp mask n : ℕ) where
             sym (ap (λ (o : Option ℕ). stopped_by o store copy stamp mask n) k
             ∙ ap (λ (c : Bool). cond c (change_by none store copy (Commits stamp mask)) (out stopped (written_from store (take n (commit_writes store copy stamp mask))) copy)) w)
 
-        pub commit-stopped : o ≡ Stopped → out_as TheStopped store' copy ≡ inner_cut store copy stamp mask n
+        pub commit-stopped : o ≡ Ok Stopped → out_as (Ok TheStopped) store' copy ≡ inner_cut store copy stamp mask n
         commit-stopped e =
             let t = told-stopped store copy store' stamp mask n (subst (Answered store copy store' stamp mask n) e A) in
             ap (λ (x : Bytes). out stopped x copy) t.3 ∙ by_enough t.0 t.1 t.2
 
-        pub commit-done : {u R : ℕ} {copy' : Bytes} → o ≡ Done u → R ≡ suc (last (store_history store))
-            → copy' ≡ copy_bytes (seat_of copy) (committed (store_history store) mask (entries_of copy)) → out_as (TheRevision R) store' copy' ≡ inner_cut store copy stamp mask n
+        pub commit-done : {u R : ℕ} {copy' : Bytes} → o ≡ Ok (Done u) → R ≡ suc (last (store_history store))
+            → copy' ≡ copy_bytes (seat_of copy) (committed (store_history store) mask (entries_of copy)) → out_as (Ok (TheRevision R)) store' copy' ≡ inner_cut store copy stamp mask n
         commit-done {u} e r w =
             let t = told-done store copy store' stamp mask n u (subst (Answered store copy store' stamp mask n) e A) in
-            (λ i. out_as (TheRevision (r i)) (t.4 i) (w i)) ∙ by_enough t.0 t.1 t.2
+            (λ i. out_as (Ok (TheRevision (r i))) (t.4 i) (w i)) ∙ by_enough t.0 t.1 t.2
 
 -- ---- what the steps ask for
 

@@ -1,5 +1,6 @@
 -- The store's numbers after the inner commit: refused or stopped they stay, and where it is done the blocks in use and the last revision have grown.
 -- Assumes nothing.
+use Rattle.std.specs.Prelude.{Err, Ok, Result}
 use Prim.Native.Nat.{◌+◌, ◌<◌, ◌^◌, suc, ℕ}
 use mathlib.Core.Bool.{Bool, cond, false, not, true}
 use mathlib.Core.List.{[], ◌∷◌}
@@ -18,7 +19,7 @@ use Rattle.model.specs.Shows.{Seen}
 use Rattle.model.specs.Store.{block_count, store_history, tail_of, used_of}
 use Rattle.model.specs.Types.{answer_of, number_of}
 use Rattle.model.specs.declared.Answer.{Answer as TheAnswer}
-use Rattle.model.specs.declared.Answer.TheVariants.{Refused, Revision as TheRevision, Stopped as TheStopped}
+use Rattle.model.specs.declared.Answer.TheVariants.{Revision as TheRevision, Stopped as TheStopped}
 use Rattle.model.specs.declared.Refusal.{Refusal}
 use Rattle.laws.proofs.Accepted.{accepted-call}
 use Rattle.commits.proofs.Answers.{told-done}
@@ -48,15 +49,15 @@ module _ (store copy : Bytes) (v : View) (F : Fitting store copy v) (stamp mask 
   inner_cut_lem t = ap (λ (o : Option ℕ). stopped_by o store copy stamp mask n) (inner_refusal store copy v F (CommitsCut stamp mask n) (t, tt))
 
   -- THE STATEMENTS: a refused commit leaves the store, and so its numbers
-  same_store : (k : Refusal) {store' copy' : Bytes} (o : Option ℕ) → out_as (Refused k) store' copy' ≡ stopped_by o store copy stamp mask n → store' ≡ store
+  same_store : (k : Refusal) {store' copy' : Bytes} (o : Option ℕ) → out_as (Err k) store' copy' ≡ stopped_by o store copy stamp mask n → store' ≡ store
   same_store k (some r) e = ap (λ (x : Out). x.store) e
   same_store k {store'} {copy'} none e = absurd (go (enough store copy stamp mask n) e)
     where
-      go : (t : Bool) → out_as (Refused k) store' copy' ≡ ends t → ⊥
+      go : (t : Bool) → out_as (Err k) store' copy' ≡ ends t → ⊥
       go true e = let s : refused (number_of k) ≡ (ends true).says = ap (λ (x : Out). x.says) e in let z : ◌≡◌ {A = ℕ} 0 1 = cc in omega arith
       go false e = let s : refused (number_of k) ≡ stopped = ap (λ (x : Out). x.says) e in let z : ◌≡◌ {A = ℕ} 0 1 = cc in omega arith
 
-  pub filed-refused : (k : Refusal) {r : Filed} {store' copy' : Bytes} → r ≡ unfiled_as v k → out_as (Refused k) store' copy' ≡ inner_cut store copy stamp mask n
+  pub filed-refused : (k : Refusal) {r : Filed} {store' copy' : Bytes} → r ≡ unfiled_as v k → out_as (Err k) store' copy' ≡ inner_cut store copy stamp mask n
       → FiledAs (inner_cut store copy stamp mask n) r store' copy'
   unfolding inner_cut
   filed-refused k {r} {store'} {copy'} q e =
@@ -69,7 +70,7 @@ module _ (store copy : Bytes) (v : View) (F : Fitting store copy v) (stamp mask 
   abbrev leaves : Bool → Answer × Side
   leaves t = cond t (revision (suc (last d.history)), committing d stamp mask) (stopped, with_tail d n)
 
-  module _ (t : tail_of store ≡ 0) (g : stamp < 2 ^ 32) (a : TheAnswer) {store' copy' : Bytes} (e : out_as a store' copy' ≡ inner_cut store copy stamp mask n) where
+  module _ (t : tail_of store ≡ 0) (g : stamp < 2 ^ 32) (a : Result TheAnswer Refusal) {store' copy' : Bytes} (e : out_as a store' copy' ≡ inner_cut store copy stamp mask n) where
     here : out_as a store' copy' ≡ call store copy (CommitsCut stamp mask n)
     here = e ∙ inner_cut_lem (no_tail t)
 
@@ -97,12 +98,12 @@ module _ (store copy : Bytes) (v : View) (F : Fitting store copy v) (stamp mask 
             ap last k.2 ∙ length-append d.history (new_commit d stamp mask ∷ []) ∙ omega (arith, O.last),
           )
 
-  pub filed-done : tail_of store ≡ 0 → stamp < 2 ^ 32 → {R u : ℕ} {o : Outcome} {store' copy' : Bytes} → Answered store copy store' stamp mask n o → o ≡ Done u
-      → out_as (TheRevision R) store' copy' ≡ inner_cut store copy stamp mask n
-      → FiledAs (inner_cut store copy stamp mask n) (record { answer = TheRevision R; used = u; last = v.last + 1 }) store' copy'
+  pub filed-done : tail_of store ≡ 0 → stamp < 2 ^ 32 → {R u : ℕ} {o : Result Outcome Refusal} {store' copy' : Bytes} → Answered store copy store' stamp mask n o → o ≡ Ok (Done u)
+      → out_as (Ok (TheRevision R)) store' copy' ≡ inner_cut store copy stamp mask n
+      → FiledAs (inner_cut store copy stamp mask n) (record { answer = (Ok (TheRevision R)); used = u; last = v.last + 1 }) store' copy'
   filed-done t g {R} {u} {o} {store'} {copy'} A q e =
       let m = told-done store copy store' stamp mask n u (subst (Answered store copy store' stamp mask n) q A) in
-      let k = grown (first_of (own_conditions d (CommitsCut stamp mask n))) (told t g (TheRevision R) e) (held t g (TheRevision R) e) in
+      let k = grown (first_of (own_conditions d (CommitsCut stamp mask n))) (told t g (Ok (TheRevision R)) e) (held t g (Ok (TheRevision R)) e) in
       record {
         is = e;
         used = m.3 ∙ ap (λ (n : ℕ). n + blocks_for d.history (commit_changes d.history mask d.entries)) (sym F.viewed.opened.accepted.in_use) ∙ sym k.0;
@@ -119,9 +120,9 @@ module _ (store copy : Bytes) (v : View) (F : Fitting store copy v) (stamp mask 
       go true e E = let z : ◌≡◌ {A = ℕ} 0 1 = cc in absurd (omega arith)
       go false e E = let k = seen_numbers (block_count store) store' copy' (with_tail d n) E in (k.1, k.2)
 
-  pub filed-stopped : tail_of store ≡ 0 → stamp < 2 ^ 32 → {store' copy' : Bytes} → out_as TheStopped store' copy' ≡ inner_cut store copy stamp mask n
-      → FiledAs (inner_cut store copy stamp mask n) (record { answer = TheStopped; used = v.used; last = v.last }) store' copy'
+  pub filed-stopped : tail_of store ≡ 0 → stamp < 2 ^ 32 → {store' copy' : Bytes} → out_as (Ok TheStopped) store' copy' ≡ inner_cut store copy stamp mask n
+      → FiledAs (inner_cut store copy stamp mask n) (record { answer = (Ok TheStopped); used = v.used; last = v.last }) store' copy'
   filed-stopped t g e =
       let O = F.viewed.opened in
-      let k = same_numbers (first_of (own_conditions d (CommitsCut stamp mask n))) (told t g TheStopped e) (held t g TheStopped e) in
+      let k = same_numbers (first_of (own_conditions d (CommitsCut stamp mask n))) (told t g (Ok TheStopped) e) (held t g (Ok TheStopped) e) in
       record { is = e; used = O.accepted.in_use ∙ sym k.0; last = O.last ∙ ap last (sym k.1) }

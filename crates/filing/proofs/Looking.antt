@@ -24,7 +24,7 @@ use Rattle.entries.proofs.States.{as_read}
 use Rattle.entries.specs.View.{Fitting, bytes_of, entry_in, or_none}
 use Rattle.entries.specs.declared.View.{View}
 use Rattle.filing.specs.Inner.{altered, source_block}
-use Rattle.masks.proofs.Bits.{Lowest}
+use Rattle.masks.specs.Chosen.{Lowest}
 use Rattle.masks.proofs.Visits.{any_here, any_next, any_none, any_chosen}
 use Rattle.search.specs.Find.{found_in}
 use Rattle.search.specs.declared.Found.{Found}

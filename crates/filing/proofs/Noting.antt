@@ -19,7 +19,8 @@ use Rattle.commits.specs.Outcome.{RightAt, RightFlags}
 use Rattle.entries.specs.View.{entry_in}
 use Rattle.filing.specs.Inner.{altered, source_block}
 use Rattle.laws.proofs.Rows.{chosen_none}
-use Rattle.masks.proofs.Bits.{Lowest, chosen-other, cleared_lt}
+use Rattle.masks.proofs.Bits.{chosen-other}
+use Rattle.masks.specs.Chosen.{Lowest}
 use mir.Val.{bool_byte}
 
 -- a test as a byte
@@ -45,21 +46,19 @@ module _ (store : Bytes) (i : ℕ) where
 
 -- the flags and the places are right for the chosen sheets that are not left in m
 pub record Noting (store copy : Bytes) (mask : ℕ) (changed places : List ℕ) (m : ℕ) : Type 0 where
-  pub small : m < 2 ^ 32
   pub flags : length changed ≡ 32
   pub spots : length places ≡ 32
   pub each : (i : ℕ) → i < 32 → chosen mask i ≡ true → chosen m i ≡ false → RightAt store i (entry (side_in store copy) i) (get_or changed i 0) (get_or places i 0)
 
 module _ (store copy : Bytes) (mask : ℕ) where
   pub noting_starts : mask < 2 ^ 32 → Noting store copy mask (replicate 32 0) (replicate 32 0) mask
-  noting_starts g = record { small = g; flags = refl; spots = refl; each = λ i g on off. let z : ◌≡◌ {A = ℕ} 0 1 = cc (on, off) in absurd (omega arith) }
+  noting_starts g = record { flags = refl; spots = refl; each = λ i g on off. let z : ◌≡◌ {A = ℕ} 0 1 = cc (on, off) in absurd (omega arith) }
 
   module _ {changed places : List ℕ} {m : ℕ} (N : Noting store copy mask changed places m) where
     -- sheet t is noted
     pub noting_next : {t n p : ℕ} → Lowest m t → t < 32 → n ≡ cond (altered (store_history store) t (entry_in copy t)) 1 0 → p ≡ source_block store (entry_in copy t)
         → Noting store copy mask (set changed t n) (set places t p) (m - 2 ^ t)
     noting_next {t} {n} {p} L g q w = record {
-      small = omega (arith, cleared_lt L, N.small);
       flags = length-set changed t n ∙ N.flags;
       spots = length-set places t p ∙ N.spots;
       each = λ i gi on off. elim (eq_or i t) [

@@ -23,7 +23,7 @@ use Rattle.laws.proofs.Rows.{cond-any}
 use Rattle.commits.specs.Outcome.{RightAt, RightFlags}
 use Rattle.entries.specs.View.{entry_in}
 use Rattle.filing.specs.Inner.{Settling, settled_as, settled_rows, settled_state, stays_as}
-use Rattle.masks.proofs.Bits.{Lowest, cleared_lt}
+use Rattle.masks.specs.Chosen.{Lowest}
 use Rattle.masks.proofs.Visits.{rows_still, rows_visit}
 use Rattle.masks.specs.Mask.{at_chosen}
 use Rattle.workcopy.proofs.Entries.{entry-fits, held, put-accepted, put_entries, put-seat, same_copy, same-entry}
@@ -99,7 +99,6 @@ abbrev settle_at : ℕ → List ℕ → ℕ → Entry → Entry
 settle_at R changed i e = settled_as R (get_or changed i 0) e
 
 pub record Doing (R : ℕ) (changed : List ℕ) (mask : ℕ) (first copy : Bytes) (m : ℕ) : Type 0 where
-  pub small : m < 2 ^ 32
   pub settling : Settling copy R
   pub seat : seat_of copy ≡ seat_of first
   pub left : settled_rows R changed m (entries_of copy) ≡ settled_rows R changed mask (entries_of first)
@@ -115,7 +114,6 @@ module _ {R : ℕ} {changed : List ℕ} {mask : ℕ} {first copy : Bytes} {m : �
       let n : t < length (entries_of copy) = omega (arith, (held copy S.accepted).0) in
       subst (λ (x : Bytes). Doing R changed mask first x (m - 2 ^ t)) (sym e)
       (record {
-        small = omega (arith, cleared_lt L, D.small);
         settling = record { accepted = put-accepted copy S.accepted t y f; low = S.low; high = S.high };
         seat = put-seat copy S.accepted t y f ∙ D.seat;
         left =

@@ -1,19 +1,18 @@
 -- What the inner commit answers and leaves, whole or stopped after n block writes, and the numbers of the store then.
 -- Assumes nothing.
-use Rattle.std.specs.Prelude.{ℕ, ◌≡◌}
+use Rattle.std.specs.Prelude.{ℕ, ◌≡◌, Err}
 use Rattle.model.specs.Calls.{Out, side_in, stopped_by}
 use Rattle.model.specs.History.{Bytes, last}
 use Rattle.model.specs.Machine.{CommitsCut}
 use Rattle.model.specs.Refusals.{conditions, first_of}
 use Rattle.model.specs.Store.{store_history, used_of}
-use Rattle.model.specs.declared.Answer.TheVariants.{Refused}
 use Rattle.model.specs.declared.Refusal.{Refusal}
 use Rattle.entries.specs.View.{out_as}
 use Rattle.entries.specs.declared.View.{View}
 use Rattle.filing.specs.declared.Filed.{Filed}
 
 abbrev pub unfiled_as : View → Refusal → Filed
-unfiled_as v k = record { answer = Refused k; used = v.used; last = v.last }
+unfiled_as v k = record { answer = Err k; used = v.used; last = v.last }
 
 -- the commit that stops after n block writes, where no line from 1 to 6 holds, nor 14: the machine's other conditions are the only ones left
 unfoldable pub inner_cut : Bytes → Bytes → ℕ → ℕ → ℕ → Out

@@ -1,5 +1,5 @@
 // The commit of a working copy that fits an accepted store: which chosen entries are changed and where a copy's source stands, refusals 7, 10, 11 and 13, the writing,
-// whole or stopped after n block writes, and what it leaves in the copy. The chosen sheets are visited by trailing zeros.
+// whole or stopped after n block writes, and what it leaves in the copy. The chosen sheets are visited the lowest first.
 #![tactic(auto)]
 
 ghost use Rattle.std.specs.Prelude.{◌<◌, ◌≡◌, length, set};
@@ -23,13 +23,10 @@ fn any_stale<'a>(store: &'a [u8], copy: &'a [u8], v: View, mask: u32) -> bool
     requires { Fitting store.now copy.now v }
     ensures { result ≡ some_stale (side_in store.now copy.now) mask }
 {
-    let mut m = mask;
-    while m != 0 {
-        let k = u32::trailing_zeros(m) as usize;
+    for k in masks::Chosen(mask) {
         if entries::is_stale(store, copy, v, k) {
             return true;
         }
-        m &= m - 1;
     }
     false
 }
@@ -39,16 +36,12 @@ fn flag_of<'a>(store: &'a [u8], copy: &'a [u8], v: View, k: usize) -> bool
     requires { Fitting store.now copy.now v × (k < 32) }
     ensures { result ≡ altered (store_history store.now) k (entry_in copy.now k) }
 {
-    let e = workcopy::entry_at(copy, k);
-    let state = e.state;
-    match state {
-        State::Empty => false,
+    match workcopy::entry_at(copy, k).state {
         State::Normal(base) => entries::differs(store, copy, v, k, base as usize, k),
-        State::Added => false,
-        State::Deleted(_) => false,
         State::Copied(s) => {
             entries::differs(store, copy, v, k, s.revision as usize, s.sheet as usize)
         }
+        State::Empty | State::Added | State::Deleted(_) => false,
     }
 }
 
@@ -57,19 +50,13 @@ fn place_of<'a>(store: &'a [u8], copy: &'a [u8], v: View, k: usize) -> u16
     requires { Fitting store.now copy.now v × (k < 32) }
     ensures { result ≡ source_block store.now (entry_in copy.now k) }
 {
-    let e = workcopy::entry_at(copy, k);
-    let state = e.state;
-    match state {
-        State::Empty => 0,
-        State::Normal(_) => 0,
-        State::Added => 0,
-        State::Deleted(_) => 0,
+    match workcopy::entry_at(copy, k).state {
         State::Copied(s) => {
             let r = s.revision as usize;
             let i = s.sheet as usize;
-            let f = search::look_up(store, v.n, v.used, r, i);
-            f.block as u16
+            search::look_up(store, v.n, v.used, r, i).block as u16
         }
+        _ => 0,
     }
 }
 
@@ -87,14 +74,9 @@ fn note_flags<'a>(store: &'a [u8], copy: &'a [u8], v: View, mask: u32) -> Flags
 {
     let mut changed: [u8; 32] = [0; 32];
     let mut places: [u16; 32] = [0; 32];
-    let mut m = mask;
-    while m != 0 {
-        let k = u32::trailing_zeros(m) as usize;
-        let flag = flag_of(store, copy, v, k);
-        let place = place_of(store, copy, v, k);
-        changed[k] = flag as u8;
-        places[k] = place;
-        m &= m - 1;
+    for k in masks::Chosen(mask) {
+        changed[k] = flag_of(store, copy, v, k) as u8;
+        places[k] = place_of(store, copy, v, k);
     }
     Flags { changed, places }
 }
@@ -108,9 +90,7 @@ fn stays(s: State, flag: u8) -> bool
     match s {
         State::Empty => true,
         State::Normal(_) => flag == 0,
-        State::Added => false,
-        State::Deleted(_) => false,
-        State::Copied(_) => false,
+        State::Added | State::Deleted(_) | State::Copied(_) => false,
     }
 }
 
@@ -119,11 +99,8 @@ fn settled_state(s: State, revision: u32) -> State
     ensures { result ≡ settled_state revision s }
 {
     match s {
-        State::Empty => State::Empty,
-        State::Normal(_) => State::Normal(revision),
-        State::Added => State::Normal(revision),
-        State::Deleted(_) => State::Empty,
-        State::Copied(_) => State::Normal(revision),
+        State::Normal(_) | State::Added | State::Copied(_) => State::Normal(revision),
+        State::Empty | State::Deleted(_) => State::Empty,
     }
 }
 
@@ -133,13 +110,11 @@ fn settle_one(copy: &mut [u8], k: usize, revision: u32, flag: u8)
     ensures { copy.new ≡ copy_bytes (seat_of copy.old) (set (entries_of copy.old) k (settled_as revision flag (entry_in copy.old k))) }
 {
     let e = workcopy::entry_at(copy, k);
-    let len = e.len;
-    let was = e.state;
-    if stays(was, flag) {
+    if stays(e.state, flag) {
         return;
     }
-    let state = settled_state(was, revision);
-    workcopy::set_entry(copy, k, Entry { state, len });
+    let state = settled_state(e.state, revision);
+    workcopy::set_entry(copy, k, Entry { state, ..e });
 }
 
 // The chosen entries after the commit.
@@ -147,11 +122,8 @@ fn settle(copy: &mut [u8], mask: u32, revision: u32, changed: &[u8])
     requires { Settling copy.old revision × (length changed.now ≡ 32) }
     ensures { copy.new ≡ copy_bytes (seat_of copy.old) (settled_rows revision changed.now mask (entries_of copy.old)) }
 {
-    let mut m = mask;
-    while m != 0 {
-        let k = u32::trailing_zeros(m) as usize;
+    for k in masks::Chosen(mask) {
         settle_one(copy, k, revision, changed[k]);
-        m &= m - 1;
     }
 }
 
@@ -160,7 +132,7 @@ fn settle(copy: &mut [u8], mask: u32, revision: u32, changed: &[u8])
 // The answer of a commit, and the store's blocks in use and last revision then.
 #[derive(Clone, Copy)]
 pub struct Filed {
-    pub answer: Answer,
+    pub answer: Result<Answer, Refusal>,
     pub used: usize,
     pub last: usize,
 }
@@ -170,7 +142,7 @@ fn unfiled(v: View, k: Refusal) -> Filed
     ensures { result ≡ unfiled_as v k }
 {
     Filed {
-        answer: Answer::Refused(k),
+        answer: Err(k),
         used: v.used,
         last: v.last,
     }
@@ -197,18 +169,17 @@ pub fn commit(store: &mut [u8], copy: &mut [u8], v: View, stamp: u32, mask: u32,
         store, n, v.used, next, seat, stamp, mask, copy, &changed, &places,
     );
     match o {
-        Outcome::Nothing => unfiled(v, Refusal::NothingPending),
-        Outcome::NoRoom => unfiled(v, Refusal::NoRoom),
-        Outcome::Stopped => Filed {
-            answer: Answer::Stopped,
+        Err(k) => unfiled(v, k),
+        Ok(Outcome::Stopped) => Filed {
+            answer: Ok(Answer::Stopped),
             used: v.used,
             last: v.last,
         },
-        Outcome::Done(used) => {
+        Ok(Outcome::Done(used)) => {
             let revision = next as u32;
             settle(copy, mask, revision, &changed);
             Filed {
-                answer: Answer::Revision(revision),
+                answer: Ok(Answer::Revision(revision)),
                 used,
                 last: next,
             }

@@ -1,5 +1,6 @@
 -- Read and log, one way through at a time: what the meanings answer where a line refuses the call, and where none does.
 -- Assumes nothing.
+use Rattle.std.specs.Prelude.{Err, Ok}
 use Prim.Native.Nat.{◌<◌, ◌≤◌, ℕ}
 use mathlib.Core.Bool.{Bool, ◌||◌, false, not, true}
 use mathlib.Core.List.{[], ◌∷◌}
@@ -25,7 +26,6 @@ use Rattle.search.specs.declared.Found.{Found}
 use Rattle.store.proofs.Opening.{open_accepted, open_refused}
 use Rattle.store.specs.Opened.{open_of}
 use Rattle.store.specs.declared.Header.{Header}
-use Rattle.store.specs.declared.Opened.TheVariants.{Open, Refused}
 
 -- the ways through `beyond`
 pub beyond_sheet : (i : ℕ) (t : Bool) → 31 < i → true ≡ (no_sheet i || t)
@@ -45,15 +45,15 @@ other-line a false c d z e = e
 other-line a true c d z e = let w : ◌≡◌ {A = ℕ} 0 1 = cc in absurd (omega arith)
 
 module _ (store : Bytes) (R i : ℕ) where
-  pub read_refused : (k : Refusal) → open_of store ≡ Refused k → no_place (number_of k) ≡ read_place store R i
+  pub read_refused : (k : Refusal) → open_of store ≡ Err k → no_place (number_of k) ≡ read_place store R i
   unfolding read_place
   read_refused k e = sym (ap (λ (o : Option ℕ). place_by o (found_place store R i)) (store-refused store (Read R i) (number_of k) (open_refused store k e)))
 
-  pub log-refused : (k : Refusal) → open_of store ≡ Refused k → refused (number_of k) ≡ log_call store R i
+  pub log-refused : (k : Refusal) → open_of store ≡ Err k → refused (number_of k) ≡ log_call store R i
   unfolding log_call
   log-refused k e = sym (ap (λ (o : Option ℕ). answer_by o (doing (store_side store) (Log R i)).0) (store-refused store (Log R i) (number_of k) (open_refused store k e)))
 
-  module _ (h : Header) (e : open_of store ≡ Open h) where
+  module _ (h : Header) (e : open_of store ≡ Ok h) where
     -- the numbers of the header are the store's
     last_is : h.last ≡ last (store_history store)
     last_is = (open_accepted store h e).1
@@ -104,7 +104,7 @@ module _ (store : Bytes) (R i : ℕ) where
       read_found z =
           read_by_lem false false (line false b) (ap (λ o. not (present o)) (block-holds store (block_count store) h.used (open_asked store h e) R i in_range_lem.1 z))
 
-      pub read_there : (f : Found) (x : Span) → f ≡ found_in store R i → (f.block ≡ 0 → ⊥) → x ≡ span_of store f.block → place_of (InStore x f.revision) ≡ read_place store R i
+      pub read_there : (f : Found) (x : Span) → f ≡ found_in store R i → (f.block ≡ 0 → ⊥) → x ≡ span_of store f.block → place_of (Ok (InStore x f.revision)) ≡ read_place store R i
       read_there f x u z s =
           let A = open_asked store h e in
           let b : f.block < used_of store = subst (λ (f : Found). f.block < used_of store) (sym u) (block_used_lem store (block_count store) h.used A R i) in

@@ -1,5 +1,6 @@
 -- `perform`, one call at a time: what its inner function answers and leaves is the machine's call, and the buffers fit again.
 -- Assumes nothing.
+use Rattle.std.specs.Prelude.{Err, Ok, Result}
 use Prim.Native.Nat.{◌-◌, ◌<◌, ◌^◌, ℕ}
 use mathlib.Core.Bool.{Bool, cond, false, not, true}
 use mathlib.Core.List.{[]}
@@ -17,9 +18,8 @@ use Rattle.model.specs.Shows.{Seen}
 use Rattle.model.specs.Store.{block_count, store_history, tail_of, used_of}
 use Rattle.model.specs.Types.{answer_of, created_as, place_of}
 use Rattle.model.specs.declared.Answer.{Answer}
-use Rattle.model.specs.declared.Answer.TheVariants.{Refused as NotDone}
 use Rattle.model.specs.declared.Place.{Place}
-use Rattle.model.specs.declared.Place.TheVariants.{InCopy, InStore, Refused}
+use Rattle.model.specs.declared.Place.TheVariants.{InCopy, InStore}
 use Rattle.model.specs.declared.Refusal.TheVariants.{Tail}
 use Rattle.laws.proofs.Accepted.{accepted-call}
 use Rattle.laws.proofs.CutCommits.{whole-commit}
@@ -41,27 +41,27 @@ use Rattle.local.proofs.Calls.{Local}
 use Rattle.local.specs.Local.{local_out}
 use Rattle.store.proofs.Opening.{accepted_open}
 use Rattle.store.specs.Opened.{open_of}
-use Rattle.store.specs.declared.Opened.TheVariants.{Open}
+use Rattle.model.specs.declared.Refusal.{Refusal}
 
 -- of no copy there is only the empty part
-none-heard : (store copy : Bytes) (x : Place) → Inside store [] x → heard store copy (place_of x) ≡ heard store [] (place_of x)
-none-heard store copy (Refused k) h = refl
-none-heard store copy (InStore p n) h = refl
-none-heard store copy (InCopy p) h =
+none-heard : (store copy : Bytes) (x : Result Place Refusal) → Inside store [] x → heard store copy (place_of x) ≡ heard store [] (place_of x)
+none-heard store copy (Err k) h = refl
+none-heard store copy (Ok (InStore p n)) h = refl
+none-heard store copy (Ok (InCopy p)) h =
     let z : p.len ≡ 0 = omega (arith, h) in
     ap (λ (n : ℕ). bytes (take n (drop p.start copy)) 0) z ∙ sym (ap (λ (n : ℕ). bytes (take n (drop p.start [])) 0) z)
 
-pub none_inside : (store copy : Bytes) (x : Place) → Inside store [] x → Inside store copy x
-none_inside store copy (Refused k) h = h
-none_inside store copy (InStore p n) h = h
-none_inside store copy (InCopy p) h = omega (arith, h)
+pub none_inside : (store copy : Bytes) (x : Result Place Refusal) → Inside store [] x → Inside store copy x
+none_inside store copy (Err k) h = h
+none_inside store copy (Ok (InStore p n)) h = h
+none_inside store copy (Ok (InCopy p)) h = omega (arith, h)
 
 module _ (store copy : Bytes) (v : View) (F : Fitting store copy v) where
   -- the numbers of the header that the view has
-  pub fitting_open : open_of store ≡ Open (record { last = v.last; used = v.used })
+  pub fitting_open : open_of store ≡ Ok (record { last = v.last; used = v.used })
   fitting_open =
       let O = F.viewed.opened in
-      accepted_open store O.accepted.clear ∙ ap Open (λ i. record { last = sym O.last i; used = sym O.accepted.in_use i })
+      accepted_open store O.accepted.clear ∙ ap Ok (λ i. record { last = sym O.last i; used = sym O.accepted.in_use i })
 
   -- the call that the code's word for it means
   pub meant : (x : Bytes) {k k' : TheCall} {p : Performed} {store' copy' : Bytes} → k ≡ k' → Performs store copy v (call_of k' x) p store' copy' → Performs store copy v (call_of k x) p store' copy'
@@ -74,10 +74,10 @@ module _ (store copy : Bytes) (v : View) (F : Fitting store copy v) where
       subst (λ (x : Performed). Performs store copy v c x store copy') (sym q)
       (record { is = e; within = w; fits = call_fitting store copy v F c ty e F.viewed.opened.accepted.in_use F.viewed.opened.last })
 
-  pub local_is : (c : Call) → Local c → (a : Answer) {copy' : Bytes} → record { says = answer_of a; copy = copy' } ≡ local_out copy c → out (answer_of a) store copy' ≡ change_call store copy c
+  pub local_is : (c : Call) → Local c → (a : Result Answer Refusal) {copy' : Bytes} → record { says = answer_of a; copy = copy' } ≡ local_out copy c → out (answer_of a) store copy' ≡ change_call store copy c
   local_is c l a {copy'} q = local_fits store copy v F c a copy' l q
 
-  pub inner_is : (c : Call) → Clear (tail_conditions (side_in store copy) c) → (a : Answer) {copy' : Bytes} → out_as a store copy' ≡ inner_out store copy c → out (answer_of a) store copy' ≡ change_call store copy c
+  pub inner_is : (c : Call) → Clear (tail_conditions (side_in store copy) c) → (a : Result Answer Refusal) {copy' : Bytes} → out_as a store copy' ≡ inner_out store copy c → out (answer_of a) store copy' ≡ change_call store copy c
   inner_is c t a q = q ∙ inner_call store copy v F c t
 
   pub untailed : {b : Bool} → b ≡ not (eqb (tail_of store) 0) → b ≡ false → tail_of store ≡ 0
@@ -85,7 +85,7 @@ module _ (store copy : Bytes) (v : View) (F : Fitting store copy v) where
 
   -- the commit that stops after n writes: refused for a tail, or filed
   pub tailed : (stamp mask n : ℕ) {b : Bool} → b ≡ not (eqb (tail_of store) 0) → b ≡ true
-      → CommitsAs (commit_cut_call store copy stamp mask n) (record { answer = NotDone Tail; used = v.used; last = v.last }) store copy
+      → CommitsAs (commit_cut_call store copy stamp mask n) (record { answer = Err Tail; used = v.used; last = v.last }) store copy
   tailed stamp mask n e t =
       let O = F.viewed.opened in
       record { is = cut_tailed store copy stamp mask n O.accepted.clear (sym e ∙ t); used = O.accepted.in_use; last = O.last }
@@ -104,7 +104,7 @@ module _ (store copy : Bytes) (v : View) (F : Fitting store copy v) where
   files c ty f A = record { is = A.is; within = tt; fits = call_fitting store copy v F c ty A.is A.used A.last }
 
   -- the clearing leaves the numbers
-  module _ (c : Call) (ty : Typed c) (a : Answer) {store' : Bytes} (w : out (answer_of a) store' copy ≡ call store copy c) where
+  module _ (c : Call) (ty : Typed c) (a : Result Answer Refusal) {store' : Bytes} (w : out (answer_of a) store' copy ≡ call store copy c) where
     left : Seen (block_count store) store' copy (side_step (side_in store copy) c).1
     left = subst (λ (x : Out). Seen (block_count store) x.store x.copy (side_step (side_in store copy) c).1) (sym w) (accepted-call store copy (fitting_accepted store copy v F) c ty).1
 
@@ -114,13 +114,13 @@ module _ (store copy : Bytes) (v : View) (F : Fitting store copy v) where
         subst (λ (x : Performed). Performs store copy v c x store' copy) (sym q)
         (record { is = w; within = tt; fits = call_fitting store copy v F c ty w (O.accepted.in_use ∙ sym n.0) (O.last ∙ sym (ap last n.1)) })
 
-  pub clears : (a : Answer) {store' : Bytes} {p : Performed} → created_as a store' ≡ clear_call store → p ≡ stay_as v (Said a) → Performs store copy v Clears p store' copy
+  pub clears : (a : Result Answer Refusal) {store' : Bytes} {p : Performed} → created_as a store' ≡ clear_call store → p ≡ stay_as v (Said a) → Performs store copy v Clears p store' copy
   clears a {store'} e q =
       let w : out (answer_of a) store' copy ≡ call store copy Clears = ap (λ (o : Created). out o.says o.buffer copy) e in
       let n = seen_numbers (block_count store) store' copy (with_tail (side_in store copy) 0) (left Clears tt a w) in
       cleared Clears tt a w (n.1, n.2) q
 
-  pub clears_cut : (n : ℕ) (a : Answer) {store' : Bytes} {p : Performed} → created_as a store' ≡ clear_cut_call store n → p ≡ stay_as v (Said a) → Performs store copy v (ClearsCut n) p store' copy
+  pub clears_cut : (n : ℕ) (a : Result Answer Refusal) {store' : Bytes} {p : Performed} → created_as a store' ≡ clear_cut_call store n → p ≡ stay_as v (Said a) → Performs store copy v (ClearsCut n) p store' copy
   clears_cut n a {store'} e q =
       let w : out (answer_of a) store' copy ≡ call store copy (ClearsCut n) = ap (λ (o : Created). out o.says o.buffer copy) e in
       cleared (ClearsCut n) tt a w (go (leb (tail_of store) n) (left (ClearsCut n) tt a w)) q
@@ -130,11 +130,11 @@ module _ (store copy : Bytes) (v : View) (F : Fitting store copy v) where
       go true E = let k = seen_numbers (block_count store) store' copy (with_tail (side_in store copy) 0) E in (k.1, k.2)
       go false E = let k = seen_numbers (block_count store) store' copy (with_tail (side_in store copy) (tail_of store - n)) E in (k.1, k.2)
 
-  pub reads : (R i : ℕ) (x : Place) {p : Performed} → Located store [] (read_place store R i) x → p ≡ stay_as v (At x) → Performs store copy v (Read R i) p store copy
+  pub reads : (R i : ℕ) (x : Result Place Refusal) {p : Performed} → Located store [] (read_place store R i) x → p ≡ stay_as v (At x) → Performs store copy v (Read R i) p store copy
   reads R i x L q =
       stays (Read R i) tt (At x) (ap (λ (a : Said·). out a store copy) (none-heard store copy x L.inside ∙ ap (heard store []) L.is)) (none_inside store copy x L.inside) q
 
-  pub panels : (R i : ℕ) (x : Place) {p : Performed} → Located store [] (panel_place store R i) x → p ≡ stay_as v (At x) → Performs store copy v (Panel R i) p store copy
+  pub panels : (R i : ℕ) (x : Result Place Refusal) {p : Performed} → Located store [] (panel_place store R i) x → p ≡ stay_as v (At x) → Performs store copy v (Panel R i) p store copy
   panels R i x L q =
       stays (Panel R i) tt (At x) (ap (λ (a : Said·). out a store copy) (none-heard store copy x L.inside ∙ ap (heard store []) L.is)) (none_inside store copy x L.inside) q
 
@@ -144,11 +144,11 @@ module _ (store copy : Bytes) (v : View) (F : Fitting store copy v) where
       let w : out (answer_of f.answer) store' copy ≡ call store copy (Release R seat stamp) = ap (λ (o : Created). beside o copy) A.is in
       record { is = w; within = tt; fits = call_fitting store copy v F (Release R seat stamp) ty w A.used A.last }
 
-  pub shows : (i : ℕ) (x : Place) {p : Performed} → Located store copy (show_place store copy i) x → p ≡ stay_as v (At x) → Performs store copy v (Show i) p store copy
+  pub shows : (i : ℕ) (x : Result Place Refusal) {p : Performed} → Located store copy (show_place store copy i) x → p ≡ stay_as v (At x) → Performs store copy v (Show i) p store copy
   shows i x L q = stays (Show i) tt (At x) (ap (λ (y : Spot). out (heard store copy y) store copy) L.is) L.inside q
 
-  pub states : (i : ℕ) (a : Answer) {p : Performed} → answer_of a ≡ status_call store copy i → p ≡ stay_as v (Said a) → Performs store copy v (Status i) p store copy
+  pub states : (i : ℕ) (a : Result Answer Refusal) {p : Performed} → answer_of a ≡ status_call store copy i → p ≡ stay_as v (Said a) → Performs store copy v (Status i) p store copy
   states i a e q = stays (Status i) tt (Said a) (ap (λ (y : Said·). out y store copy) e) tt q
 
-  pub logs : (R i : ℕ) (a : Answer) {p : Performed} → answer_of a ≡ log_call store R i → p ≡ stay_as v (Said a) → Performs store copy v (Log R i) p store copy
+  pub logs : (R i : ℕ) (a : Result Answer Refusal) {p : Performed} → answer_of a ≡ log_call store R i → p ≡ stay_as v (Said a) → Performs store copy v (Log R i) p store copy
   logs R i a e q = stays (Log R i) tt (Said a) (ap (λ (y : Said·). out y store copy) e) tt q

@@ -1,5 +1,6 @@
 -- A release and a panel's reading on a store that is open: what the meanings answer and leave, one way through at a time.
 -- Assumes nothing.
+use Rattle.std.specs.Prelude.{Err, Ok}
 use Prim.Native.Nat.{◌*◌, ◌+◌, ◌<◌, ◌^◌, ◌≤◌, ℕ}
 use mathlib.Core.Bool.{Bool, ◌&&◌, ◌||◌, false, not, or-true, true}
 use mathlib.Core.List.{List, [], ◌∷◌}
@@ -21,7 +22,7 @@ use Rattle.model.specs.Pass.{log_all}
 use Rattle.model.specs.Refusals.{Clear, ◌when◌, first_of, full, no_seat, no_sheet, too_late}
 use Rattle.model.specs.Store.{block_count, blocks_of, store_history, store_marks, tail_of, used_of}
 use Rattle.model.specs.Types.{created_as, number_of}
-use Rattle.model.specs.declared.Answer.TheVariants.{Done, Refused}
+use Rattle.model.specs.declared.Answer.TheVariants.{Done}
 use Rattle.model.specs.declared.Refusal.{Refusal}
 use Rattle.model.specs.declared.Refusal.TheVariants.{NoRoom, Range, Released, Tail}
 use Rattle.laws.proofs.Accepted.{accepted-kept}
@@ -40,7 +41,6 @@ use Rattle.marks.specs.Laid.{Laid}
 use Rattle.store.proofs.Opening.{open_accepted, open_refused}
 use Rattle.store.specs.Opened.{open_of}
 use Rattle.store.specs.declared.Header.{Header}
-use Rattle.store.specs.declared.Opened.TheVariants.{Open, Refused as NotOpen}
 
 -- the ways through `unreleasable`
 pub seat-none : (s : ℕ) (t : Bool) → s < 1 → true ≡ (no_seat s || t)
@@ -63,17 +63,17 @@ revision-none s R n l g h = sym (ap (λ (b : Bool). eqb R 0 || b) (le-ltb n R h)
     or_nothing false = refl
 
 module _ (store : Bytes) (R i : ℕ) where
-  pub panel-refused : (k : Refusal) → open_of store ≡ NotOpen k → no_place (number_of k) ≡ panel_place store R i
+  pub panel-refused : (k : Refusal) → open_of store ≡ Err k → no_place (number_of k) ≡ panel_place store R i
   unfolding panel_place
   panel-refused k e =
       sym (ap (λ (o : Option ℕ). place_by o (found_place store (panel_revision (store_marks store) R) i)) (store-refused store (Panel R i) (number_of k) (open_refused store k e)))
 
-pub release_refused : (store : Bytes) (R seat stamp : ℕ) (k : Refusal) → open_of store ≡ NotOpen k → created_as (Refused k) store ≡ release_call store R seat stamp
+pub release_refused : (store : Bytes) (R seat stamp : ℕ) (k : Refusal) → open_of store ≡ Err k → created_as (Err k) store ≡ release_call store R seat stamp
 unfolding mark_call
 release_refused store R seat stamp k e =
     sym (ap (λ (o : Option ℕ). mark_by o store (Release R seat stamp)) (store-refused store (Release R seat stamp) (number_of k) (open_refused store k e)))
 
-module _ (store : Bytes) (h : Header) (e : open_of store ≡ Open h) where
+module _ (store : Bytes) (h : Header) (e : open_of store ≡ Ok h) where
   accepted : first_of (store_conditions store) ≡ none
   accepted = (open_accepted store h e).0
 
@@ -182,7 +182,7 @@ module _ (store : Bytes) (h : Header) (e : open_of store ≡ Open h) where
                   (let z = ltb-false (last (store_history store)) R (or_false (eqb R 0) (too_late (store_history store) R) seven.1).1 in omega (arith, z, last-low, own_room store accepted, sized))
 
               pub made : stamp < 2 ^ 32 → {store' : Bytes} → store' ≡ written (512 * h.used) (encode fields_of (mark (released R seat stamp))) store
-                  → ReleasesAs (release_call store R seat stamp) (record { answer = Done; used = h.used + 1; last = h.last }) store'
+                  → ReleasesAs (release_call store R seat stamp) (record { answer = (Ok Done); used = h.used + 1; last = h.last }) store'
               unfolding mark_call
               made small {store'} w =
                   let M = (demand_one store []).releases R seat stamp small lines in

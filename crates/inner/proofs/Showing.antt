@@ -1,5 +1,6 @@
 -- Show and status, one way through at a time, on a store and a working copy that fits it: what the meanings answer where a line refuses the call, and where none does.
 -- Assumes nothing.
+use Rattle.std.specs.Prelude.{Err, Ok}
 use Prim.Native.Nat.{◌*◌, ◌+◌, ◌<◌, ◌≤◌, ℕ}
 use mathlib.Core.Bool.{Bool, false, not, true}
 use mathlib.Core.List.{[], ◌++◌, ◌∷◌}
@@ -29,7 +30,6 @@ use Rattle.inner.specs.Place.{has_own}
 use Rattle.entries.proofs.Checking.{fitting_accepted}
 use Rattle.entries.proofs.Looking.{found-used}
 use Rattle.entries.specs.View.{Fitting, check_of, entry_in, standing_of}
-use Rattle.entries.specs.declared.Checked.TheVariants.{Refused}
 use Rattle.entries.specs.declared.View.{View}
 use Rattle.search.proofs.Finding.{block-holds, block_lacks, block_span}
 use Rattle.search.specs.Find.{found_in, span_of}
@@ -51,12 +51,12 @@ own-none (Deleted r) b e = refl
 own-none (Copied s) b e = let z : ◌≡◌ {A = ℕ} 0 1 = cc in absurd (omega arith)
 
 module _ (store copy : Bytes) where
-  pub show_refused : (k : Refusal) (i : ℕ) → check_of store copy ≡ Refused k → no_place (number_of k) ≡ show_place store copy i
+  pub show_refused : (k : Refusal) (i : ℕ) → check_of store copy ≡ Err k → no_place (number_of k) ≡ show_place store copy i
   unfolding show_place
   show_refused k i e =
       sym (ap (λ (o : Option ℕ). place_by o (own_place (own_bytes (entry (side_in store copy) i)) i (found_place store (last (store_history store)) i))) (check_refusal store copy k (Show i) tt e))
 
-  pub status-refused : (k : Refusal) (i : ℕ) → check_of store copy ≡ Refused k → refused (number_of k) ≡ status_call store copy i
+  pub status-refused : (k : Refusal) (i : ℕ) → check_of store copy ≡ Err k → refused (number_of k) ≡ status_call store copy i
   unfolding status_call
   status-refused k i e = sym (ap (λ (o : Option ℕ). answer_by o (doing (side_in store copy) (Status i)).0) (check_refusal store copy k (Status i) tt e))
 
@@ -82,7 +82,7 @@ module _ (store copy : Bytes) where
     newest-inside i e = omega (arith, newest-used i e, taken-room store F.viewed.opened.accepted.clear)
 
     module _ (i : ℕ) where
-      status_by : (a : Bool) → no_sheet i ≡ a → answer_by (first_of (7 when a ∷ [])) (answer_of (StatusIs (standing_of (store_history store) i (entry_in copy i)))) ≡ status_call store copy i
+      status_by : (a : Bool) → no_sheet i ≡ a → answer_by (first_of (7 when a ∷ [])) (answer_of (Ok (StatusIs (standing_of (store_history store) i (entry_in copy i))))) ≡ status_call store copy i
       unfolding status_call
       status_by a p =
           sym
@@ -92,8 +92,8 @@ module _ (store copy : Bytes) where
       pub status_beyond : 31 < i → refused 7 ≡ status_call store copy i
       status_beyond g = status_by true (lt-ltb 31 i g)
 
-      pub status-there : i ≤ 31 → (x : Standing) → x ≡ standing_of (store_history store) i (entry_in copy i) → answer_of (StatusIs x) ≡ status_call store copy i
-      status-there g x e = ap (λ (y : Standing). answer_of (StatusIs y)) e ∙ status_by false (le-ltb 31 i g)
+      pub status-there : i ≤ 31 → (x : Standing) → x ≡ standing_of (store_history store) i (entry_in copy i) → answer_of (Ok (StatusIs x)) ≡ status_call store copy i
+      status-there g x e = ap (λ (y : Standing). answer_of (Ok (StatusIs y))) e ∙ status_by false (le-ltb 31 i g)
 
       abbrev there : Option Bytes → Place
       there o = own_place o i (found_place store (last (store_history store)) i)
@@ -123,7 +123,7 @@ module _ (store copy : Bytes) where
               show_by false true none (le-ltb 31 i g) q
               (ap not ((block_lacks store v.n v.used F.viewed.opened.accepted (last (store_history store)) i (omega arith)).0 (sym u ∙ z)))
 
-          pub show_there : (f.block ≡ 0 → ⊥) → (s : Span) → s ≡ span_of store f.block → place_of (InStore s f.revision) ≡ show_place store copy i
+          pub show_there : (f.block ≡ 0 → ⊥) → (s : Span) → s ≡ span_of store f.block → place_of (Ok (InStore s f.revision)) ≡ show_place store copy i
           show_there z s w =
               ap (λ (y : Span). in_store y.start y.len f.revision) (w ∙ block_span store v.n v.used F.viewed.opened.accepted f.block (newest-used i found))
               ∙ ap (λ (x : Found). block_place store x.block x.revision) (newest_is i found)

@@ -1,12 +1,11 @@
 -- What an inner call answers and leaves: the machine's call on the buffers, and buffers that fit again.
 -- Assumes nothing.
-use Rattle.std.specs.Prelude.{◌≡◌}
+use Rattle.std.specs.Prelude.{◌≡◌, Err}
 use Rattle.model.specs.Calls.{Created, Out, call, heard, out}
 use Rattle.model.specs.History.{Bytes, last}
 use Rattle.model.specs.Machine.{Add, Answer, Call, Clears, ClearsCut, Commits, CommitsCut, Copy, Delete, Edit, Log, Move, Panel, Read, Release, Revert, Show, Status, Update}
 use Rattle.model.specs.Store.{store_history, used_of}
 use Rattle.model.specs.Types.{answer_of, created_as, place_of}
-use Rattle.model.specs.declared.Answer.TheVariants.{Refused}
 use Rattle.model.specs.declared.Refusal.{Refusal}
 use Rattle.entries.specs.View.{Fitting}
 use Rattle.entries.specs.declared.View.{View}
@@ -52,6 +51,9 @@ Within store copy (At p) = Inside store copy p
 abbrev pub stay_as : View → Reply → Performed
 stay_as v r = record { reply = r; used = v.used; last = v.last }
 
+abbrev pub moved_as : Filed → Performed
+moved_as f = record { reply = Said f.answer; used = f.used; last = f.last }
+
 -- this came of a commit, and these are the numbers of the store that it leaves
 pub record CommitsAs (o : Out) (r : Filed) (store' copy' : Bytes) : Type 0 where
   pub is : out (answer_of r.answer) store' copy' ≡ o
@@ -60,7 +62,7 @@ pub record CommitsAs (o : Out) (r : Filed) (store' copy' : Bytes) : Type 0 where
 
 -- a release was refused with this
 abbrev pub unmoved_as : Header → Refusal → Filed
-unmoved_as h k = record { answer = Refused k; used = h.used; last = h.last }
+unmoved_as h k = record { answer = Err k; used = h.used; last = h.last }
 
 -- this came of a release, and these are the numbers of the store that it leaves
 pub record ReleasesAs (o : Created) (r : Filed) (store' : Bytes) : Type 0 where

@@ -3,13 +3,12 @@
 
 ghost use Rattle.std.specs.Prelude.{◌||◌, [], ◌≡◌, eqb, ltb};
 ghost use Rattle.entries.specs.View.{Fitting};
-ghost use Rattle.inner.specs.Performs.{CommitsAs, Performs, ReleasesAs, call_of, stay_as, unmoved_as};
+ghost use Rattle.inner.specs.Performs.{CommitsAs, Performs, ReleasesAs, call_of, moved_as, stay_as, unmoved_as};
 ghost use Rattle.inner.specs.Place.{Located, has_own};
 ghost use Rattle.model.specs.Calls.{clear_cut_call, commit_cut_call, log_call, panel_place, read_place, release_call, show_place, status_call};
 ghost use Rattle.model.specs.Refusals.{no_seat, no_sheet};
 ghost use Rattle.model.specs.Types.{answer_of, created_as};
 ghost use Rattle.store.specs.Opened.{open_of};
-ghost use Rattle.store.specs.declared.Opened.TheVariants.{Open};
 
 use entries::View;
 use filing::Filed;
@@ -42,8 +41,8 @@ pub enum Call {
 // What a call answers; read, a panel's reading and show, where the bytes stand.
 #[derive(Clone, Copy)]
 pub enum Reply {
-    Said(Answer),
-    At(Place),
+    Said(Result<Answer, Refusal>),
+    At(Result<Place, Refusal>),
 }
 
 // ---- looking
@@ -52,115 +51,109 @@ pub enum Reply {
 fn beyond(h: Header, revision: u32, sheet: u32) -> bool
     ensures { result ≡ (no_sheet sheet || ltb h.last revision) }
 {
-    if 31 < sheet {
-        return true;
-    }
-    h.last < revision as usize
+    31 < sheet || h.last < revision as usize
 }
 
 // The companion of read, on a store that is open.
-pub fn place_in(store: &[u8], h: Header, revision: u32, sheet: u32) -> Place
-    requires { open_of store.now ≡ Open h }
+pub fn place_in(store: &[u8], h: Header, revision: u32, sheet: u32) -> Result<Place, Refusal>
+    requires { open_of store.now ≡ Ok h }
     ensures { Located store.now [] (read_place store.now revision sheet) result }
 {
     if beyond(h, revision, sheet) {
-        return Place::Refused(Refusal::Range);
+        return Err(Refusal::Range);
     }
     let n = store.len() / 512;
     let found = search::look_up(store, n, h.used, revision as usize, sheet as usize);
     if found.block == 0 {
-        return Place::Refused(Refusal::Missing);
+        return Err(Refusal::Missing);
     }
-    Place::InStore(search::span_at(store, found.block), found.revision)
+    Ok(Place::InStore(search::span_at(store, found.block), found.revision))
 }
 
 // The companion of a panel's reading, on a store that is open: what read's gives at the greatest released revision up to this one. Tree 0, where there is none, has no sheet.
-pub fn panel_in(store: &[u8], h: Header, revision: u32, sheet: u32) -> Place
-    requires { open_of store.now ≡ Open h }
+pub fn panel_in(store: &[u8], h: Header, revision: u32, sheet: u32) -> Result<Place, Refusal>
+    requires { open_of store.now ≡ Ok h }
     ensures { Located store.now [] (panel_place store.now revision sheet) result }
 {
     if h.last < revision as usize {
-        return Place::Refused(Refusal::Range);
+        return Err(Refusal::Range);
     }
     let released = marks::greatest(store, h.used, revision);
     place_in(store, h, released, sheet)
 }
 
 // Log on a store that is open.
-pub fn log_in(store: &[u8], h: Header, revision: u32, sheet: u32) -> Answer
-    requires { open_of store.now ≡ Open h }
+pub fn log_in(store: &[u8], h: Header, revision: u32, sheet: u32) -> Result<Answer, Refusal>
+    requires { open_of store.now ≡ Ok h }
     ensures { answer_of result ≡ log_call store.now revision sheet }
 {
     if revision == 0 {
-        return Answer::Refused(Refusal::Range);
+        return Err(Refusal::Range);
     }
     if beyond(h, revision, sheet) {
-        return Answer::Refused(Refusal::Range);
+        return Err(Refusal::Range);
     }
     let n = store.len() / 512;
-    Answer::Logged(search::log_at(store, n, h.used, revision as usize, sheet as usize))
+    Ok(Answer::Logged(search::log_at(store, n, h.used, revision as usize, sheet as usize)))
 }
 
 // Whether an entry in this state has bytes of its own.
 fn own_bytes(s: State) -> bool
     ensures { result ≡ has_own s }
 {
-    match s {
-        State::Empty => false,
-        State::Normal(_) => true,
-        State::Added => true,
-        State::Deleted(_) => false,
-        State::Copied(_) => true,
-    }
+    matches!(s, State::Normal(_) | State::Added | State::Copied(_))
 }
 
 // The companion of show, on a store and a working copy that fits it.
-pub fn shown_in<'a>(store: &'a [u8], copy: &'a [u8], v: View, sheet: u32) -> Place
+pub fn shown_in<'a>(store: &'a [u8], copy: &'a [u8], v: View, sheet: u32) -> Result<Place, Refusal>
     requires { Fitting store.now copy.now v }
     ensures { Located store.now copy.now (show_place store.now copy.now sheet) result }
 {
     if 31 < sheet {
-        return Place::Refused(Refusal::Range);
+        return Err(Refusal::Range);
     }
     let i = sheet as usize;
     let e = workcopy::entry_at(copy, i);
-    let state = e.state;
-    if own_bytes(state) {
+    if own_bytes(e.state) {
         let start = 512 * (1 + i) + 16;
-        let len = e.len;
-        return Place::InCopy(Span { start, len });
+        return Ok(Place::InCopy(Span { start, len: e.len }));
     }
     let found = search::look_up(store, v.n, v.used, v.last, i);
     if found.block == 0 {
-        return Place::Refused(Refusal::Missing);
+        return Err(Refusal::Missing);
     }
-    Place::InStore(search::span_at(store, found.block), found.revision)
+    Ok(Place::InStore(search::span_at(store, found.block), found.revision))
 }
 
 // The status of an entry, on a store and a working copy that fits it.
-pub fn status_in<'a>(store: &'a [u8], copy: &'a [u8], v: View, sheet: u32) -> Answer
+pub fn status_in<'a>(
+    store: &'a [u8],
+    copy: &'a [u8],
+    v: View,
+    sheet: u32,
+) -> Result<Answer, Refusal>
     requires { Fitting store.now copy.now v }
     ensures { answer_of result ≡ status_call store.now copy.now sheet }
 {
     if 31 < sheet {
-        return Answer::Refused(Refusal::Range);
+        return Err(Refusal::Range);
     }
-    Answer::Status(entries::status_at(store, copy, v, sheet as usize))
+    Ok(Answer::Status(entries::status_at(store, copy, v, sheet as usize)))
 }
 
 // ---- the tail
 
 // Clears the tail of a store that is open, and stops after n block writes.
-pub fn clear_in(store: &mut [u8], h: Header, n: usize) -> Answer
-    requires { open_of store.old ≡ Open h }
+pub fn clear_in(store: &mut [u8], h: Header, n: usize) -> Result<Answer, Refusal>
+    requires { open_of store.old ≡ Ok h }
     ensures { created_as result store.new ≡ clear_cut_call store.old n }
 {
     let used = h.used;
     let count = tails::count(store, used);
     if tails::clear(store, used, count, n) {
-        return Answer::Done;
+        return Ok(Answer::Done);
     }
-    Answer::Stopped
+    Ok(Answer::Stopped)
 }
 
 // Commit on a store and a working copy that fits it, stopped after n block writes: refused where the store has a tail.
@@ -170,7 +163,7 @@ fn commit_in(store: &mut [u8], copy: &mut [u8], v: View, stamp: u32, mask: u32, 
 {
     if tails::has(store, v.used) {
         return Filed {
-            answer: Answer::Refused(Refusal::Tail),
+            answer: Err(Refusal::Tail),
             used: v.used,
             last: v.last,
         };
@@ -184,16 +177,7 @@ fn commit_in(store: &mut [u8], copy: &mut [u8], v: View, stamp: u32, mask: u32, 
 fn unreleasable(h: Header, revision: u32, seat: u32) -> bool
     ensures { result ≡ (no_seat seat || (eqb revision 0 || ltb h.last revision)) }
 {
-    if seat < 1 {
-        return true;
-    }
-    if 4 < seat {
-        return true;
-    }
-    if h.last < revision as usize {
-        return true;
-    }
-    revision == 0
+    !(1..=4).contains(&seat) || revision == 0 || h.last < revision as usize
 }
 
 // Refused: the store's numbers stay.
@@ -201,7 +185,7 @@ fn unmoved(h: Header, k: Refusal) -> Filed
     ensures { result ≡ unmoved_as h k }
 {
     Filed {
-        answer: Answer::Refused(k),
+        answer: Err(k),
         used: h.used,
         last: h.last,
     }
@@ -209,7 +193,7 @@ fn unmoved(h: Header, k: Refusal) -> Filed
 
 // A release on a store that is open: its one block is written in the place of the first zero block.
 pub fn release_in(store: &mut [u8], h: Header, revision: u32, seat: u32, stamp: u32) -> Filed
-    requires { open_of store.old ≡ Open h }
+    requires { open_of store.old ≡ Ok h }
     ensures { ReleasesAs (release_call store.old revision seat stamp) result store.new }
 {
     if tails::has(store, h.used) {
@@ -227,7 +211,7 @@ pub fn release_in(store: &mut [u8], h: Header, revision: u32, seat: u32, stamp: 
     writer::put_release(store, h.used, revision as usize, seat as u8, stamp);
     let used = h.used + 1;
     Filed {
-        answer: Answer::Done,
+        answer: Ok(Answer::Done),
         used,
         last: h.last,
     }
@@ -254,27 +238,33 @@ fn stay(v: View, reply: Reply) -> Performed
     }
 }
 
+// What was filed, and the store's numbers then.
+fn moved(filed: Filed) -> Performed
+    ensures { result ≡ moved_as filed }
+{
+    Performed {
+        reply: Reply::Said(filed.answer),
+        used: filed.used,
+        last: filed.last,
+    }
+}
+
 // The call is done or refused, and both buffers fit again. A commit has 33 block writes at most, a tail 33 blocks.
 pub fn perform(store: &mut [u8], copy: &mut [u8], v: View, call: Call, bytes: &[u8]) -> Performed
     requires { Fitting store.old copy.old v }
     ensures { Performs store.old copy.old v (call_of call bytes.now) result store.new copy.new }
 {
+    let h = Header {
+        last: v.last,
+        used: v.used,
+    };
     match call {
         Call::Add(sheet) => stay(v, Reply::Said(local::add(copy, sheet, bytes))),
         Call::Edit(sheet) => stay(v, Reply::Said(local::edit(copy, sheet, bytes))),
         Call::Delete(sheet) => stay(v, Reply::Said(local::delete(copy, sheet))),
         Call::Copy(from, to) => stay(v, Reply::Said(local::copy_sheet(copy, from, to))),
         Call::Move(from, to) => stay(v, Reply::Said(local::move_sheet(copy, from, to))),
-        Call::Commit(stamp, mask) => {
-            let filed = commit_in(store, copy, v, stamp, mask, 33);
-            let answer = filed.answer;
-            let reply = Reply::Said(answer);
-            Performed {
-                reply,
-                used: filed.used,
-                last: filed.last,
-            }
-        }
+        Call::Commit(stamp, mask) => moved(commit_in(store, copy, v, stamp, mask, 33)),
         Call::Update(mask, revision) => {
             stay(
                 v,
@@ -282,66 +272,18 @@ pub fn perform(store: &mut [u8], copy: &mut [u8], v: View, call: Call, bytes: &[
             )
         }
         Call::Revert(mask) => stay(v, Reply::Said(updates::revert(store, copy, v, mask))),
-        Call::Read(revision, sheet) => {
-            let h = Header {
-                last: v.last,
-                used: v.used,
-            };
-            stay(v, Reply::At(place_in(store, h, revision, sheet)))
-        }
+        Call::Read(revision, sheet) => stay(v, Reply::At(place_in(store, h, revision, sheet))),
         Call::Show(sheet) => stay(v, Reply::At(shown_in(store, copy, v, sheet))),
         Call::Status(sheet) => stay(v, Reply::Said(status_in(store, copy, v, sheet))),
-        Call::Log(revision, sheet) => {
-            let h = Header {
-                last: v.last,
-                used: v.used,
-            };
-            stay(v, Reply::Said(log_in(store, h, revision, sheet)))
-        }
-        Call::Clear => {
-            let h = Header {
-                last: v.last,
-                used: v.used,
-            };
-            stay(v, Reply::Said(clear_in(store, h, 33)))
-        }
+        Call::Log(revision, sheet) => stay(v, Reply::Said(log_in(store, h, revision, sheet))),
+        Call::Clear => stay(v, Reply::Said(clear_in(store, h, 33))),
         Call::CommitCut(stamp, mask, n) => {
-            let filed = commit_in(store, copy, v, stamp, mask, n as usize);
-            let answer = filed.answer;
-            let reply = Reply::Said(answer);
-            Performed {
-                reply,
-                used: filed.used,
-                last: filed.last,
-            }
+            moved(commit_in(store, copy, v, stamp, mask, n as usize))
         }
-        Call::ClearCut(n) => {
-            let h = Header {
-                last: v.last,
-                used: v.used,
-            };
-            stay(v, Reply::Said(clear_in(store, h, n as usize)))
-        }
+        Call::ClearCut(n) => stay(v, Reply::Said(clear_in(store, h, n as usize))),
         Call::Release(revision, seat, stamp) => {
-            let h = Header {
-                last: v.last,
-                used: v.used,
-            };
-            let filed = release_in(store, h, revision, seat, stamp);
-            let answer = filed.answer;
-            let reply = Reply::Said(answer);
-            Performed {
-                reply,
-                used: filed.used,
-                last: filed.last,
-            }
+            moved(release_in(store, h, revision, seat, stamp))
         }
-        Call::Panel(revision, sheet) => {
-            let h = Header {
-                last: v.last,
-                used: v.used,
-            };
-            stay(v, Reply::At(panel_in(store, h, revision, sheet)))
-        }
+        Call::Panel(revision, sheet) => stay(v, Reply::At(panel_in(store, h, revision, sheet))),
     }
 }

@@ -1,11 +1,10 @@
 -- The states of the code beside the machine's entries: an entry that was read, and what a call makes of it.
 -- Assumes nothing.
 use Prim.Native.Nat.{◌+◌, ◌<◌, ◌≤◌, ℕ}
-use mathlib.Core.Bool.{Bool, false, not, true}
+use mathlib.Core.Bool.{Bool, false, true}
 use mathlib.Core.List.{List, []}
 use mathlib.Core.Path.{◌∙◌, ◌≡◌, ap, refl, subst, sym}
 use native.Mathlib.Omega.{arith}
-use borrow.Author.Tests.{not-false, not-true}
 use lib.ListN.{get_or, length}
 use Rattle.block.specs.Buffer.{block_at}
 use Rattle.model.specs.Entry.{Entry, added, copied, deleted, empty, is_empty, normal}
@@ -22,12 +21,12 @@ use Rattle.workcopy.specs.Copy.{Accepted, Carries, CopyOk, Fit, PutOk, Reading, 
 
 -- ---- what does not depend on the bytes
 
-empty-any : (s : State) (b : List ℕ) → is_empty (entry_as s []) ≡ is_empty (entry_as s b)
-empty-any Empty b = refl
-empty-any (Normal r) b = refl
-empty-any Added b = refl
-empty-any (Deleted r) b = refl
-empty-any (Copied s) b = refl
+filled : (s : State) (b : List ℕ) → (s ≡ Empty → ⊥) → is_empty (entry_as s b) ≡ false
+filled Empty b ne = absurd (ne refl)
+filled (Normal r) b ne = refl
+filled Added b ne = refl
+filled (Deleted r) b ne = refl
+filled (Copied s) b ne = refl
 
 nothing-any : (s : State) (b : List ℕ) → nothing_in (entry_as s []) ≡ nothing_in (entry_as s b)
 nothing-any Empty b = refl
@@ -111,11 +110,11 @@ there_differs l i j some free q = apart some (nothing-empty (get_or (entries_of 
 -- ---- an entry that was read
 
 module _ (l : List ℕ) (i : ℕ) (e : TheEntry) (r : Reading l i e) where
-  pub was_empty : {t : Bool} → t ≡ is_empty (entry_as e.state []) → not t ≡ false → is_empty (get_or (entries_of l) i empty) ≡ true
-  was_empty {t} p q = sym (p ∙ empty-any e.state (bytes_in e (block_at l (i + 1))) ∙ ap is_empty r.means) ∙ not-false t q
+  pub was_empty : e.state ≡ Empty → is_empty (get_or (entries_of l) i empty) ≡ true
+  was_empty q = sym (ap is_empty r.means) ∙ ap (λ (s : State). is_empty (entry_as s (bytes_in e (block_at l (i + 1))))) q
 
-  pub not-empty : {t : Bool} → t ≡ is_empty (entry_as e.state []) → not t ≡ true → is_empty (get_or (entries_of l) i empty) ≡ false
-  not-empty {t} p q = sym (p ∙ empty-any e.state (bytes_in e (block_at l (i + 1))) ∙ ap is_empty r.means) ∙ not-true t q
+  pub not-empty : (e.state ≡ Empty → ⊥) → is_empty (get_or (entries_of l) i empty) ≡ false
+  not-empty ne = sym (ap is_empty r.means) ∙ filled e.state (bytes_in e (block_at l (i + 1))) ne
 
   pub was_nothing : {t b : Bool} → t ≡ nothing_in (entry_as e.state []) → t ≡ b → nothing_in (get_or (entries_of l) i empty) ≡ b
   was_nothing p q = sym (p ∙ nothing-any e.state (bytes_in e (block_at l (i + 1))) ∙ ap nothing_in r.means) ∙ q

@@ -1,14 +1,15 @@
 -- The calls that look at nothing of a store, on an accepted working copy: add, edit, delete, copy, move.
 -- The machine's own conditions and deeds rule what happens. Refusals 1 to 6 are the caller's.
 -- Assumes nothing.
-use Rattle.std.specs.Prelude.{ℕ, Bool, false, true, []}
+use Rattle.std.specs.Prelude.{ℕ, [], Result}
 use Rattle.std.proofs.Math.Option.{Option, none, some}
 use Rattle.model.specs.History.{Bytes}
-use Rattle.model.specs.Machine.{Answer, Call, Side, bytes, doing, done, logged, refused, revision, status, stopped}
+use Rattle.model.specs.Machine.{Answer, Call, Side, doing, refused}
 use Rattle.model.specs.Refusals.{conditions, first_of}
 use Rattle.model.specs.Types.{answer_of}
 use Rattle.model.specs.WorkCopy.{copy_bytes, entries_of, seat_of}
 use Rattle.model.specs.declared.Answer.{Answer as TheAnswer}
+use Rattle.model.specs.declared.Refusal.{Refusal}
 
 -- the copy's side, beside an empty store
 abbrev pub copy_side : Bytes → Side
@@ -28,14 +29,5 @@ unfoldable pub local_out : Bytes → Call → LocalOut
 local_out copy c = local_by (first_of (conditions (copy_side copy) c)) copy c
 
 -- what the code answers, and the copy that it leaves
-abbrev pub out : TheAnswer → Bytes → LocalOut
+abbrev pub out : Result TheAnswer Refusal → Bytes → LocalOut
 out a copy = record { says = answer_of a; copy = copy }
-
-abbrev pub is_done : Answer → Bool
-is_done (refused n) = false
-is_done done = true
-is_done stopped = false
-is_done (revision R) = false
-is_done (bytes x n) = false
-is_done (status s n) = false
-is_done (logged seat stamp m a i R) = false

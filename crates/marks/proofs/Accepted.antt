@@ -1,13 +1,13 @@
 -- Accepted blocks: the revisions that are read off block by block are those of the log, and each is less than the blocks are many.
 -- Assumes nothing.
-use Prim.Native.Nat.{◌+◌, ◌<◌, ◌≤◌, suc, ℕ}
+use Prim.Native.Nat.{◌+◌, ◌<◌, ◌≤◌, suc, zero, ℕ}
 use mathlib.Core.Bool.{◌&&◌}
 use mathlib.Core.List.{List, [], ◌∷◌}
 use mathlib.Core.Path.{◌≡◌, ap, refl, subst, sym}
 use native.Mathlib.Omega.{arith}
 use borrow.Author.Tests.{ne_eqb}
 use lib.Dec.{T, eqb, leb, ltb}
-use lib.ListN.{length, length-append, replicate}
+use lib.ListN.{get_or, length, length-append, replicate}
 use Rattle.block.proofs.Says.{and_true, says-le, says-lt}
 use Rattle.block.specs.Lists.{All, all}
 use Rattle.model.specs.Blocks.{Block, FitsBlock, blank, bytes_at, commit, content, fields_of, fits_block, label, mark, parse}
@@ -17,6 +17,7 @@ use Rattle.model.specs.Pass.{grown, is_blank, laid, log_all, log_from, ok, ok_fr
 use Rattle.model.specs.Store.{blocks_of}
 use Rattle.laws.proofs.BlockCodes.{block_coded}
 use Rattle.laws.proofs.Codec.{length-parts}
+use Rattle.laws.proofs.Rows.{cond-any}
 use Rattle.marks.specs.Laid.{Laid}
 use Rattle.marks.specs.Revisions.{released_by, revision_of, revisions_in}
 
@@ -100,6 +101,16 @@ length-blocks n s = length-parts fields_of parse fits_block FitsBlock block_code
 abbrev pub Low : List Block → Type 0
 Low bs = All (λ (b : Block). revision_of b < 4_096) bs
 
+lows : (bs : List Block) → Low bs → All (λ (x : ℕ). x < 4_096) (revisions_in bs)
+lows [] l = tt
+lows (b ∷ bs) l =
+    cond-any (λ (xs : List ℕ). All (λ (x : ℕ). x < 4_096) xs) (eqb (revision_of b) 0) (λ t. lows bs l.1) (λ t. (l.0, lows bs l.1))
+
+at : (xs : List ℕ) (k : ℕ) → All (λ (x : ℕ). x < 4_096) xs → k < length xs → get_or xs k 0 < 4_096
+at [] k l h = absurd (omega arith)
+at (x ∷ xs) zero l h = l.0
+at (x ∷ xs) (suc k) l h = at xs k l.1 (omega arith)
+
 -- THE STATEMENTS
 module _ (s : List ℕ) (n : ℕ) (L : Laid s n) where
   accepted : T (ok (blocks_of n s))
@@ -110,3 +121,7 @@ module _ (s : List ℕ) (n : ℕ) (L : Laid s n) where
 
   pub laid-low : Low (blocks_of n s)
   laid-low = ok-low 4_096 (blocks_of n s) (omega (arith, length-blocks n s, L.few)) accepted
+
+  -- each has its place in a table of 4,096
+  pub low_at : (k : ℕ) → k < length (releases (marks (log_all (blocks_of n s)))) → get_or (releases (marks (log_all (blocks_of n s)))) k 0 < 4_096
+  low_at k h = subst (λ (xs : List ℕ). k < length xs → get_or xs k 0 < 4_096) laid_revisions (at (revisions_in (blocks_of n s)) k (lows (blocks_of n s) laid-low)) h

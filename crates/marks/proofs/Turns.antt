@@ -4,12 +4,16 @@ use Prim.Native.Nat.{◌+◌, ◌<◌, ◌≤◌, suc, zero, ℕ}
 use mathlib.Core.Bool.{Bool, ◌&&◌, and_assoc, and-false, cond, false, not, true}
 use mathlib.Core.List.{List, [], ◌∷◌}
 use mathlib.Core.Logic.{inl, inr}
-use mathlib.Core.Path.{◌∙◌, ◌≡◌, ap, refl, subst, sym}
+use mathlib.Core.Path.{◌∙◌, ◌≡◌, ap, refl, sym}
 use native.Mathlib.Omega.{arith}
-use borrow.Author.Tests.{eq-eqb, eqb-true, le-leb, lt-leb, ltb-false, ltb-true, ne_eqb}
+use borrow.Author.Tests.{eq-eqb, ltb-false, ltb-true, ne_eqb}
 use lib.Dec.{eqb, leb, ltb}
 use lib.ListN.{get_or, length, replicate, set}
 use lib.Seq.{get_or-set_other, get_or-set_same}
+use Rattle.std.proofs.lemmas.Bool.Decides.{nat_tests}
+use Rattle.std.proofs.Common.{add-one, ap₂, drop, drop-cons, drop_of_length-le, max}
+use Rattle.std.specs.List.{filter, fold, list_any}
+use mathlib.Core.Bool.{◌||◌}
 use Rattle.block.proofs.Says.{eq_or}
 use Rattle.block.specs.Field.{two_at}
 use Rattle.block.specs.Lists.{all}
@@ -18,10 +22,9 @@ use Rattle.model.specs.Log.{among, greater, greatest, marks, marks_ok, once}
 use Rattle.model.specs.Pass.{log_all}
 use Rattle.model.specs.Store.{blocks_of}
 use Rattle.laws.proofs.Rows.{cond-any, replicate-any}
-use Rattle.marks.specs.Revisions.{is_mark, onto, revision_of, revisions_in}
+use Rattle.marks.specs.Revisions.{is_mark, revision_of, revisions_in}
 use Rattle.marks.specs.Laid.{Laid}
-use Rattle.marks.proofs.Accepted.{Low, laid_revisions}
-use Rattle.marks.proofs.Walk.{left, left-all, left-none, left_step, lent}
+use Rattle.marks.proofs.Accepted.{laid_revisions}
 
 -- ---- one block
 
@@ -48,12 +51,14 @@ no_revision (commit r seat stamp ls) e = refl
 no_revision (mark m) e = let z : ◌≡◌ {A = ℕ} 0 1 = cc in absurd (omega arith)
 no_revision blank e = refl
 
-pub revision-not : (l : List ℕ) → (get_or l 0 0 ≡ 6 → ⊥) → 0 ≡ revision_of (parse l)
-revision-not l n = sym (no_revision (parse l) (kind-mark l ∙ ne_eqb (get_or l 0 0) 6 n))
+pub revision_none : (l : List ℕ) → (get_or l 0 0 ≡ 6 → ⊥) → revision_of (parse l) ≡ 0
+revision_none l n = no_revision (parse l) (kind-mark l ∙ ne_eqb (get_or l 0 0) 6 n)
 
-pub revision_is : (l : List ℕ) → get_or l 0 0 ≡ 6 → two_at l 4 ≡ revision_of (parse l)
+pub revision_is : (l : List ℕ) → get_or l 0 0 ≡ 6 → revision_of (parse l) ≡ two_at l 4
 unfolding parse
 revision_is l e = rw e
+
+pub ruleset revision_laws = (revision_is, revision_none, nat_tests)
 
 -- ---- no mark block
 
@@ -66,148 +71,78 @@ pub markless : (s : List ℕ) (n : ℕ) → Laid s n → ((p : ℕ) → p < leng
     → true ≡ marks_ok (marks (log_all (blocks_of n s)))
 markless s n L f = sym (ap once (sym (laid_revisions s n L) ∙ no_revisions (blocks_of n s) f))
 
--- ---- the revisions that are left
-
-abbrev pub revisions_left : List ℕ → ℕ → ℕ → List ℕ
-revisions_left s n p = revisions_in (left s n p)
-
-pub revisions_all : (s : List ℕ) (n : ℕ) → revisions_left s n 0 ≡ revisions_in (blocks_of n s)
-revisions_all s n = ap revisions_in (left-all s n)
-
-revisions_step : (s : List ℕ) (n p : ℕ) {x : ℕ} → p < n → x ≡ revision_of (parse (lent s p)) → revisions_left s n p ≡ onto x (revisions_left s n (p + 1))
-revisions_step s n p h e = ap revisions_in (left_step s n p h) ∙ ap (λ (y : ℕ). onto y (revisions_left s n (p + 1))) (sym e)
-
 -- ---- is a revision one of them?
 
-pub among-zero : (bs : List Block) → among 0 (revisions_in bs) ≡ false
-among-zero [] = refl
-among-zero (b ∷ bs) = cond-any (λ (xs : List ℕ). among 0 xs ≡ false) (eqb (revision_of b) 0) (λ t. among-zero bs) (λ t. rw t (among-zero bs))
-
-among-onto : (r x : ℕ) (xs : List ℕ) → 0 < r → among r (onto x xs) ≡ cond (eqb x r) true (among r xs)
-among-onto r x xs h =
-    cond-any (λ (ys : List ℕ). among r ys ≡ cond (eqb x r) true (among r xs)) (eqb x 0)
-    (λ t. let z : x ≡ 0 = eqb-true x 0 t in rw (ne_eqb x r (λ e. omega arith))) (λ t. refl)
-
-module _ (s : List ℕ) (n p r : ℕ) (w : Bool) (inv : among r (revisions_left s n p) ≡ w) where
-  module _ (h : p < n) (g : 0 < r) (x : ℕ) (ex : x ≡ revision_of (parse (lent s p))) where
-    among-step : among r (revisions_left s n p) ≡ cond (eqb x r) true (among r (revisions_left s n (p + 1)))
-    among-step = ap (among r) (revisions_step s n p h ex) ∙ among-onto r x (revisions_left s n (p + 1)) g
-
-    pub among-found : x ≡ r → true ≡ w
-    among-found e = sym (among-step ∙ ap (λ (b : Bool). cond b true (among r (revisions_left s n (p + 1)))) (eq-eqb x r e)) ∙ inv
-
-    pub among-not : (x ≡ r → ⊥) → among r (revisions_left s n (p + 1)) ≡ w
-    among-not e = sym (among-step ∙ ap (λ (b : Bool). cond b true (among r (revisions_left s n (p + 1)))) (ne_eqb x r e)) ∙ inv
-
-  pub among-done : n ≤ p → false ≡ w
-  among-done h = sym (ap (λ (bs : List Block). among r (revisions_in bs)) (left-none s n p h)) ∙ inv
+pub among_any : (r : ℕ) (xs : List ℕ) → list_any (λ x. eqb x r) xs ≡ among r xs
+among_any r [] = refl
+among_any r (x ∷ xs) = rw (among_any r xs) (one (eqb x r) (among r xs))
+  where
+    one : (t u : Bool) → (t || u) ≡ cond t true u
+    one true u = refl
+    one false u = refl
 
 -- ---- the greatest of them
 
-greater-low : (x y : ℕ) → x ≤ y → greater x y ≡ y
-greater-low x y h = cond-any (λ (z : ℕ). z ≡ y) (ltb x y) (λ t. refl) (λ t. omega (arith, ltb-false x y t))
+greater_max : (x y : ℕ) → greater x y ≡ max x y
+greater_max x y = cond-any (λ (z : ℕ). z ≡ max x y) (ltb x y) (λ t. let h : x < y = ltb-true x y t in omega arith) (λ t. let h : y ≤ x = ltb-false x y t in omega arith)
 
-greater-high : (x y : ℕ) → y ≤ x → greater x y ≡ x
-greater-high x y h = cond-any (λ (z : ℕ). z ≡ x) (ltb x y) (λ t. omega (arith, ltb-true x y t)) (λ t. refl)
+greatest_from : (r a : ℕ) (xs : List ℕ) → fold max a (filter (λ x. leb x r) xs) ≡ max a (greatest r xs)
+greatest_from r a [] = omega arith
+greatest_from r a (x ∷ xs) =
+    let f = filter (λ y. leb y r) xs in
+    let g = greatest r xs in
+    elim (leb x r) as (λ t. fold max a (cond t (x ∷ f) f) ≡ max a (cond t (greater x g) g)) [
+      | true ↦ greatest_from r (max a x) xs ∙ omega (arith, greater_max x g)
+      | false ↦ greatest_from r a xs
+    ]
 
--- of a number and the greater of two, where the first is no more than the second, or no less
-greater_skips : (m x y : ℕ) → x ≤ m → greater m (greater x y) ≡ greater m y
-greater_skips m x y h =
-    cond-any (λ (z : ℕ). greater m z ≡ greater m y) (ltb x y) (λ t. refl)
-    (λ t. let l : y ≤ x = ltb-false x y t in greater-high m x h ∙ sym (greater-high m y (omega arith)))
-
-greater-takes : (m x y : ℕ) → m ≤ x → greater m (greater x y) ≡ greater x y
-greater-takes m x y h =
-    greater-low m (greater x y) (cond-any (λ (z : ℕ). m ≤ z) (ltb x y) (λ t. let l : x < y = ltb-true x y t in omega arith) (λ t. h))
-
-greatest-onto : (r x : ℕ) (xs : List ℕ) → greatest r (onto x xs) ≡ cond (leb x r) (greater x (greatest r xs)) (greatest r xs)
-greatest-onto r x xs =
-    cond-any (λ (ys : List ℕ). greatest r ys ≡ cond (leb x r) (greater x (greatest r xs)) (greatest r xs)) (eqb x 0)
-    (λ t. let z : x ≡ 0 = eqb-true x 0 t in rw (le-leb x r (omega arith)) (sym (greater-low x (greatest r xs) (omega arith)))) (λ t. refl)
-
-pub greatest_start : (y : ℕ) → greater 0 y ≡ y
-greatest_start y = greater-low 0 y (omega arith)
-
-module _ (s : List ℕ) (n p r m w : ℕ) (inv : greater m (greatest r (revisions_left s n p)) ≡ w) where
-  module _ (h : p < n) (x : ℕ) (ex : x ≡ revision_of (parse (lent s p))) where
-    greatest-step : greatest r (revisions_left s n p) ≡ cond (leb x r) (greater x (greatest r (revisions_left s n (p + 1)))) (greatest r (revisions_left s n (p + 1)))
-    greatest-step = ap (greatest r) (revisions_step s n p h ex) ∙ greatest-onto r x (revisions_left s n (p + 1))
-
-    pub greatest_above : r < x → greater m (greatest r (revisions_left s n (p + 1))) ≡ w
-    greatest_above g = sym (ap (greater m) (greatest-step ∙ rw (lt-leb x r g))) ∙ inv
-
-    pub greatest_less : x ≤ r → x ≤ m → greater m (greatest r (revisions_left s n (p + 1))) ≡ w
-    greatest_less g l = sym (ap (greater m) (greatest-step ∙ rw (le-leb x r g)) ∙ greater_skips m x (greatest r (revisions_left s n (p + 1))) l) ∙ inv
-
-    pub greatest_more : x ≤ r → m ≤ x → greater x (greatest r (revisions_left s n (p + 1))) ≡ w
-    greatest_more g l = sym (ap (greater m) (greatest-step ∙ rw (le-leb x r g)) ∙ greater-takes m x (greatest r (revisions_left s n (p + 1))) l) ∙ inv
-
-  pub greatest-done : n ≤ p → m ≡ w
-  greatest-done h = sym (ap (λ (bs : List Block). greater m (greatest r (revisions_in bs))) (left-none s n p h) ∙ greater-high m 0 (omega arith)) ∙ inv
+pub greatest_is : (r : ℕ) (xs : List ℕ) → fold max 0 (filter (λ x. leb x r) xs) ≡ greatest r xs
+greatest_is r xs = greatest_from r 0 xs ∙ omega arith
 
 -- ---- none of them twice: none that is left is marked, and none of them stands twice
 
-abbrev unmarked : List ℕ → List ℕ → Bool
-unmarked seen xs = all (λ (x : ℕ). eqb (get_or seen x 0) 0) xs
+abbrev unmarked : List Bool → List ℕ → Bool
+unmarked seen xs = all (λ (x : ℕ). not (get_or seen x false)) xs
 
-abbrev pub apart : List ℕ → List ℕ → Bool
+abbrev pub apart : List Bool → List ℕ → Bool
 apart seen xs = unmarked seen xs && once xs
 
-marked : (seen : List ℕ) (i : ℕ) (xs : List ℕ) → i < length seen → unmarked (set seen i 1) xs ≡ (unmarked seen xs && not (among i xs))
+marked : (seen : List Bool) (i : ℕ) (xs : List ℕ) → i < length seen → unmarked (set seen i true) xs ≡ (unmarked seen xs && not (among i xs))
 marked seen i [] h = refl
 marked seen i (x ∷ xs) h =
     elim (eq_or x i) [
       | inl e ↦
-          let m : get_or (set seen i 1) x 0 ≡ 1 = ap (λ (k : ℕ). get_or (set seen i 1) k 0) e ∙ get_or-set_same seen i 1 0 h in
+          let m : get_or (set seen i true) x false ≡ true = ap (λ (k : ℕ). get_or (set seen i true) k false) e ∙ get_or-set_same seen i true false h in
           rw (m, eq-eqb x i e) (sym (and-false (unmarked seen (x ∷ xs))))
       | inr n ↦
-          rw (get_or-set_other seen i x 1 0 n, ne_eqb x i n, marked seen i xs h)
-          (sym (and_assoc (eqb (get_or seen x 0) 0) (unmarked seen xs) (not (among i xs))))
+          rw (get_or-set_other seen i x true false n, ne_eqb x i n, marked seen i xs h)
+          (sym (and_assoc (not (get_or seen x false)) (unmarked seen xs) (not (among i xs))))
     ]
 
 once-next : (a b : Bool) → (not a && b) ≡ cond a false b
 once-next true b = refl
 once-next false b = refl
 
-apart_next : (seen : List ℕ) (x : ℕ) (xs : List ℕ) → x < length seen → get_or seen x 0 ≡ 0 → apart (set seen x 1) xs ≡ apart seen (x ∷ xs)
-apart_next seen x xs h z =
-    rw (marked seen x xs h, eq-eqb (get_or seen x 0) 0 z)
-    (and_assoc (unmarked seen xs) (not (among x xs)) (once xs) ∙ ap (λ (b : Bool). unmarked seen xs && b) (once-next (among x xs) (once xs)))
-
-unmarked_all : (n : ℕ) (xs : List ℕ) → unmarked (replicate n 0) xs ≡ true
+unmarked_all : (n : ℕ) (xs : List ℕ) → unmarked (replicate n false) xs ≡ true
 unmarked_all n [] = refl
-unmarked_all n (x ∷ xs) = rw (replicate-any (λ (y : ℕ). y ≡ 0) n x 0 0 refl refl) (unmarked_all n xs)
+unmarked_all n (x ∷ xs) = rw (replicate-any (λ (b : Bool). b ≡ false) n x false false refl refl) (unmarked_all n xs)
 
-pub apart-all : (n : ℕ) (xs : List ℕ) → apart (replicate n 0) xs ≡ once xs
-apart-all n xs = ap (λ (b : Bool). b && once xs) (unmarked_all n xs)
+pub apart_all : (n : ℕ) (xs : List ℕ) → apart (replicate n false) xs ≡ once xs
+apart_all n xs = ap (λ (b : Bool). b && once xs) (unmarked_all n xs)
 
--- the next revision has its place in the table
-module _ (s : List ℕ) (n p : ℕ) (h : p < n) (l : Low (left s n p)) where
-  low-next : Low (parse (lent s p) ∷ left s n (p + 1))
-  low-next = subst Low (left_step s n p h) l
+-- the k-th is the next
+module _ (seen : List Bool) (xs : List ℕ) (k x : ℕ) (h : k < length xs) (e : x ≡ get_or xs k x) where
+  next : drop k xs ≡ x ∷ drop (k + 1) xs
+  next = drop-cons xs k x h ∙ ap₂ (λ (y : ℕ) (n : ℕ). y ∷ drop n xs) (sym e) (sym (add-one k))
 
-  pub low_first : {x : ℕ} → x ≡ revision_of (parse (lent s p)) → x < 4_096
-  low_first e = omega (arith, e, low-next.0)
+  pub apart_step : x < length seen → get_or seen x false ≡ false → apart (set seen x true) (drop (k + 1) xs) ≡ apart seen (drop k xs)
+  apart_step l z =
+      let rest = drop (k + 1) xs in
+      rw (marked seen x rest l, next, z)
+      (and_assoc (unmarked seen rest) (not (among x rest)) (once rest) ∙ ap (λ (b : Bool). unmarked seen rest && b) (once-next (among x rest) (once rest)))
 
-  pub low-rest : Low (left s n (p + 1))
-  low-rest = low-next.1
+  pub apart_fails : get_or seen x false ≡ true → apart seen (drop k xs) ≡ false
+  apart_fails t = rw (next, t)
 
-module _ (s : List ℕ) (n p : ℕ) (seen : List ℕ) (w : Bool) (inv : apart seen (revisions_left s n p) ≡ w) where
-  module _ (h : p < n) (x : ℕ) (ex : x ≡ revision_of (parse (lent s p))) where
-    pub apart-skip : x ≡ 0 → apart seen (revisions_left s n (p + 1)) ≡ w
-    apart-skip z =
-        let e : revisions_left s n p ≡ revisions_left s n (p + 1) = revisions_step s n p h ex ∙ rw (eq-eqb x 0 z) in
-        sym (ap (apart seen) e) ∙ inv
-
-    module _ (g : x ≡ 0 → ⊥) where
-      next : revisions_left s n p ≡ x ∷ revisions_left s n (p + 1)
-      next = revisions_step s n p h ex ∙ rw (ne_eqb x 0 g)
-
-      pub apart_fails : (get_or seen x 0 ≡ 0 → ⊥) → false ≡ w
-      apart_fails e = sym (ap (apart seen) next ∙ rw (ne_eqb (get_or seen x 0) 0 e)) ∙ inv
-
-      pub apart-step : x < length seen → get_or seen x 0 ≡ 0 → apart (set seen x 1) (revisions_left s n (p + 1)) ≡ w
-      apart-step l e = sym (ap (apart seen) next ∙ sym (apart_next seen x (revisions_left s n (p + 1)) l e)) ∙ inv
-
-  pub apart-done : n ≤ p → true ≡ w
-  apart-done h = sym (ap (λ (bs : List Block). apart seen (revisions_in bs)) (left-none s n p h)) ∙ inv
+pub apart_none : (seen : List Bool) (xs : List ℕ) (k : ℕ) → length xs ≤ k → apart seen (drop k xs) ≡ true
+apart_none seen xs k h = rw (drop_of_length-le xs {i = k} h)

@@ -1,6 +1,6 @@
 -- The revisions that the mark blocks of a store name, read off block by block.
 -- Assumes nothing.
-use Rattle.std.specs.Prelude.{ℕ, Bool, cond, false, true, List, [], ◌∷◌, eqb}
+use Rattle.std.specs.Prelude.{ℕ, Bool, cond, false, true, List, [], ◌∷◌, eqb, Option, None, Some}
 use Rattle.model.specs.Blocks.{Block, blank, commit, content, label, mark}
 use Rattle.model.specs.Log.{Mark, released}
 
@@ -14,6 +14,10 @@ revision_of (content r b) = 0
 revision_of (commit r seat stamp ls) = 0
 revision_of (mark m) = released_by m
 revision_of blank = 0
+
+-- x, where it is not 0
+abbrev pub nonzero : ℕ → Option ℕ
+nonzero x = cond (eqb x 0) None (Some x)
 
 -- one revision more; there is no revision 0
 abbrev pub onto : ℕ → List ℕ → List ℕ

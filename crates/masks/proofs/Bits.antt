@@ -14,6 +14,7 @@ use lib.Dec.{eqb}
 use lib.Pow.{high, mod-pow-add, pow-add, pow-lt, pow_pos, shl-shr, shr_lt, shr-shr}
 use Rattle.block.proofs.Says.{lt_or_ge}
 use Rattle.model.specs.Machine.{chosen}
+use Rattle.masks.specs.Chosen.{Lowest}
 use Rattle.masks.specs.Mask.{bit, count_to}
 
 -- ---- the bits of a block a above k digits r
@@ -29,11 +30,6 @@ bit_under a e i =
 
 bit-low : (a k i : ℕ) → i < k → bit (a * 2 ^ k) i ≡ 0
 bit-low a k i h = let e : k ≡ suc (k - suc i) + i = omega arith in ap (λ (x : ℕ). bit (a * 2 ^ x) i) e ∙ bit_under a (k - suc i) i
-
--- ---- the lowest set bit t of n: n is odd above t, and 0 below
-pub record Lowest (n t : ℕ) : Type 0 where
-  pub rest : ℕ
-  pub is : n ≡ (rest * 2 + 1) * 2 ^ t
 
 half_lt : {n : ℕ} (k : ℕ) → n < 2 ^ suc k → n / 2 < 2 ^ k
 half_lt {n} k h = shr_lt k 1 (subst (λ (x : ℕ). n < 2 ^ x) (sym (add-one k)) h)

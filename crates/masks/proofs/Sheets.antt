@@ -11,7 +11,8 @@ use lib.Dec.{eqb}
 use lib.ListN.{length}
 use Rattle.model.specs.Machine.{chosen}
 use Rattle.laws.proofs.Rows.{chosen_none}
-use Rattle.masks.proofs.Bits.{Lowest, chosen_below, chosen_cleared, chosen_lowest, chosen-other, lowest}
+use Rattle.masks.proofs.Bits.{chosen_below, chosen_cleared, chosen_lowest, chosen-other, lowest}
+use Rattle.masks.specs.Chosen.{Lowest}
 use Rattle.masks.specs.Mask.{bit, count_to, sheets_from}
 
 -- two masks that choose alike from i on have the same sheets there

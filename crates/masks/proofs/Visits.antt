@@ -11,7 +11,8 @@ use lib.ListN.{get_or, length, set}
 use Rattle.model.specs.Machine.{chosen}
 use Rattle.model.specs.Rows.{rows, some-row}
 use Rattle.laws.proofs.Rows.{and-nothing, chosen_none, some-row_at}
-use Rattle.masks.proofs.Bits.{Lowest, chosen_cleared, chosen_lowest, chosen-other}
+use Rattle.masks.proofs.Bits.{chosen_cleared, chosen_lowest, chosen-other}
+use Rattle.masks.specs.Chosen.{Lowest}
 use Rattle.masks.specs.Mask.{at_chosen}
 
 -- ---- f done at each chosen sheet: `rows (at_chosen f m) 0 es` stays the same, from the first mask and the first rows to no mask and the last rows

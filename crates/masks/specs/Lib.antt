@@ -1,2 +1,3 @@
--- The definitions that the contract of `masks` and the laws on masks cite.
+-- The definitions that the contracts of `masks` and the laws on masks cite.
+pub mod Chosen
 pub mod Mask

@@ -15,8 +15,7 @@ pub extern "C" fn measure_look_up(store: &[u8], n: usize, used: usize, r: usize,
     requires { Accepted store.now n used × (r ≤ last (store_history store.now)) × (i < 32) }
     ensures { result ≡ block_used store.now r i }
 {
-    let f = search::look_up(store, n, used, r, i);
-    f.block
+    search::look_up(store, n, used, r, i).block
 }
 
 // The status of entry i.
@@ -39,6 +38,5 @@ pub extern "C" fn measure_status<'a>(
         last,
         seat,
     };
-    let s = entries::status_at(store, copy, v, i);
-    s.status
+    entries::status_at(store, copy, v, i).status
 }

@@ -1,6 +1,6 @@
 -- What the types of src/lib.rt mean: for each case of an enum the document's number and values. The promises of the engine use these definitions.
 -- Assumes nothing.
-use Rattle.std.specs.Prelude.{ℕ}
+use Rattle.std.specs.Prelude.{ℕ, Err, Ok, Result}
 use Rattle.model.specs.Calls.{Created, Place, in_copy, in_store, no_place}
 use Rattle.model.specs.Entry.{Entry, added, copied, deleted, empty, normal}
 use Rattle.model.specs.History.{Bytes}
@@ -8,10 +8,10 @@ use Rattle.model.specs.Machine.{Answer, done, logged, refused, revision, status,
 use Rattle.model.specs.declared.Action.{Action}
 use Rattle.model.specs.declared.Action.TheVariants.{Add, Change, Copy, Delete, Nothing}
 use Rattle.model.specs.declared.Answer.{Answer as TheAnswer}
-use Rattle.model.specs.declared.Answer.TheVariants.{Done, Logged, Refused, Revision, Status, Stopped}
+use Rattle.model.specs.declared.Answer.TheVariants.{Done, Logged, Revision, Status, Stopped}
 use Rattle.model.specs.declared.Entry.{Entry as TheEntry}
 use Rattle.model.specs.declared.Place.{Place as ThePlace}
-use Rattle.model.specs.declared.Place.TheVariants.{InCopy, InStore, Refused as NoPlace}
+use Rattle.model.specs.declared.Place.TheVariants.{InCopy, InStore}
 use Rattle.model.specs.declared.Refusal.{Refusal}
 use Rattle.model.specs.declared.Refusal.TheVariants.{Conflict, CopyLayout, CopyLength, Missing, NoRoom, NotHolding, NothingPending, Occupied, OutOfDate, Range, Released, StoreCheck, StoreLayout, StoreLength, Tail, Unfit}
 use Rattle.model.specs.declared.State.{State}
@@ -71,20 +71,20 @@ source_revision Delete = 0
 source_revision (Copy s) = s.revision
 
 -- the machine's answer; of status both numbers, document 01's and W3's
-abbrev pub answer_of : TheAnswer → Answer
-answer_of (Refused r) = refused (number_of r)
-answer_of Done = done
-answer_of Stopped = stopped
-answer_of (Revision R) = revision R
-answer_of (Status s) = status s.status s.revision
-answer_of (Logged l) = logged l.seat l.stamp l.changes (action_number l.action) (source_sheet l.action) (source_revision l.action)
+abbrev pub answer_of : Result TheAnswer Refusal → Answer
+answer_of (Err r) = refused (number_of r)
+answer_of (Ok Done) = done
+answer_of (Ok Stopped) = stopped
+answer_of (Ok (Revision R)) = revision R
+answer_of (Ok (Status s)) = status s.status s.revision
+answer_of (Ok (Logged l)) = logged l.seat l.stamp l.changes (action_number l.action) (source_sheet l.action) (source_revision l.action)
 
 -- an answer of create, beside the buffer that it makes
-abbrev pub created_as : TheAnswer → Bytes → Created
+abbrev pub created_as : Result TheAnswer Refusal → Bytes → Created
 created_as r b = record { says = answer_of r; buffer = b }
 
 -- the place of the meanings; W3's number is with a part of the store alone (`Calls.number_at`)
-abbrev pub place_of : ThePlace → Place
-place_of (NoPlace r) = no_place (number_of r)
-place_of (InStore p n) = in_store p.start p.len n
-place_of (InCopy p) = in_copy p.start p.len
+abbrev pub place_of : Result ThePlace Refusal → Place
+place_of (Err r) = no_place (number_of r)
+place_of (Ok (InStore p n)) = in_store p.start p.len n
+place_of (Ok (InCopy p)) = in_copy p.start p.len

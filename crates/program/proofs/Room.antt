@@ -4,15 +4,16 @@ use Prim.Native.Nat.{◌*◌, ◌+◌, ◌<◌, ◌≤◌, suc, ℕ}
 use mathlib.Core.Bool.{Bool, ◌||◌, cond, false, true}
 use mathlib.Core.List.{List, [], ◌++◌, ◌∷◌}
 use mathlib.Core.Option.{Option, none, some}
-use mathlib.Core.Path.{◌≡◌, ap, refl, subst}
+use mathlib.Core.Path.{◌∙◌, ◌≡◌, ap, refl, subst}
 use native.Mathlib.Omega.{arith}
 use borrow.Author.Tests.{le-leb, leb-false, leb-true, lt-leb, ltb-false}
 use lib.Dec.{eqb, leb}
 use lib.ListN.{length, length-append}
+use Rattle.std.specs.Prelude.{Option as TheOption, None, Some}
 use Rattle.block.proofs.Says.{says_same, true_says}
 use Rattle.command.specs.Command.{four, four_of, is_word, key_of, line_turn, seated, three, three_of, turn, turn_of}
 use Rattle.command.specs.declared.Key.{Key}
-use Rattle.command.specs.declared.Key.TheVariants.{Add as KeyAdd, Cp, Del, Get, Mv, Other, Put, Set, Up}
+use Rattle.command.specs.declared.Key.TheVariants.{Add as KeyAdd, Cp, Del, Get, Mv, Put, Set, Up}
 use Rattle.laws.proofs.Conditions.{clear}
 use Rattle.laws.proofs.Invariant.{kept_fresh, kept_step}
 use Rattle.laws.proofs.Rows.{or_false}
@@ -88,23 +89,23 @@ seated-room n k c r = go (eqb k 1 || eqb k 2)
     go true = r
     go false = tt
 
-abbrev is_get : Key → Bool
-is_get KeyAdd = false
-is_get Set = false
-is_get Del = false
-is_get Cp = false
-is_get Mv = false
-is_get Put = false
-is_get Up = false
-is_get Get = true
-is_get Other = false
+abbrev is_get : TheOption Key → Bool
+is_get None = false
+is_get (Some KeyAdd) = false
+is_get (Some Set) = false
+is_get (Some Del) = false
+is_get (Some Cp) = false
+is_get (Some Mv) = false
+is_get (Some Put) = false
+is_get (Some Up) = false
+is_get (Some Get) = true
 
 -- not the key, so a later one
-other : (t : Bool) (x r : Key) → is_get x ≡ false → is_get (cond t x r) ≡ true → is_get r ≡ true
+other : (t : Bool) (x r : TheOption Key) → is_get x ≡ false → is_get (cond t x r) ≡ true → is_get r ≡ true
 other true x r f e = let z : ◌≡◌ {A = ℕ} 0 1 = cc in absurd (omega arith)
 other false x r f e = e
 
-this : (t : Bool) → is_get (cond t Get Other) ≡ true → t ≡ true
+this : (t : Bool) → is_get (cond t (Some Get) None) ≡ true → t ≡ true
 this true e = refl
 this false e = let z : ◌≡◌ {A = ℕ} 0 1 = cc in absurd (omega arith)
 
@@ -113,15 +114,15 @@ unfolding key_of is_word
 get_long k e =
     ap length (true_says (says_same k (103 ∷ 101 ∷ 116 ∷ []))
     (this (is_word k (103 ∷ 101 ∷ 116 ∷ []))
-    (other (is_word k (117 ∷ 112 ∷ [])) Up _ refl
-    (other (is_word k (112 ∷ 117 ∷ 116 ∷ [])) Put _ refl
-    (other (is_word k (109 ∷ 118 ∷ [])) Mv _ refl
-    (other (is_word k (99 ∷ 112 ∷ [])) Cp _ refl
-    (other (is_word k (100 ∷ 101 ∷ 108 ∷ [])) Del _ refl
-    (other (is_word k (115 ∷ 101 ∷ 116 ∷ [])) Set _ refl
-    (other (is_word k (97 ∷ 100 ∷ 100 ∷ [])) KeyAdd _ refl e)))))))))
+    (other (is_word k (117 ∷ 112 ∷ [])) (Some Up) _ refl
+    (other (is_word k (112 ∷ 117 ∷ 116 ∷ [])) (Some Put) _ refl
+    (other (is_word k (109 ∷ 118 ∷ [])) (Some Mv) _ refl
+    (other (is_word k (99 ∷ 112 ∷ [])) (Some Cp) _ refl
+    (other (is_word k (100 ∷ 101 ∷ 108 ∷ [])) (Some Del) _ refl
+    (other (is_word k (115 ∷ 101 ∷ 116 ∷ [])) (Some Set) _ refl
+    (other (is_word k (97 ∷ 100 ∷ 100 ∷ [])) (Some KeyAdd) _ refl e)))))))))
 
-three-room : (n : ℕ) (k : Key) (a b : ℕ) → (is_get k ≡ true → 8 ≤ n) → Roomy n (three k a b)
+three-room : (n : ℕ) (k : Key) (a b : ℕ) → (is_get (Some k) ≡ true → 8 ≤ n) → Roomy n (three k a b)
 three-room n KeyAdd a b f = tt
 three-room n Set a b f = tt
 three-room n Del a b f = seated-room n a (Delete b) tt
@@ -130,7 +131,6 @@ three-room n Mv a b f = tt
 three-room n Put a b f = seated-room n a (Commits b 4_294_967_295) tt
 three-room n Up a b f = seated-room n a (Update 4_294_967_295 b) tt
 three-room n Get a b f = f refl
-three-room n Other a b f = tt
 
 four-room : (n : ℕ) (k : Key) (a b : ℕ) (z : Option ℕ) (h : Option (List ℕ)) → Roomy n (four k a b z h)
 four-room n KeyAdd a b z none = tt
@@ -145,7 +145,6 @@ four-room n Mv a b (some e) h = seated-room n a (Move b e) tt
 four-room n Put a b z h = tt
 four-room n Up a b z h = tt
 four-room n Get a b z h = tt
-four-room n Other a b z h = tt
 
 some_long : (w : List ℕ) (m : ℕ) → number_of w ≡ some m → 1 ≤ length w
 unfolding number_of
@@ -167,18 +166,20 @@ unfolding turn_of
 turn-room [] = tt
 turn-room (k ∷ []) = tt
 turn-room (k ∷ x ∷ []) = tt
-turn-room (k ∷ x ∷ y ∷ []) = go (number_of x) (number_of y) (number_long x) (number_long y)
+turn-room (k ∷ x ∷ y ∷ []) = go (key_of k) refl (number_of x) (number_of y) (number_long x) (number_long y)
   where
-    go : (u v : Option ℕ) → long u x → long v y → Roomy (sizes (k ∷ x ∷ y ∷ [])) (three_of (key_of k) u v)
-    go none v p q = tt
-    go (some a) none p q = tt
-    go (some a) (some b) p q = three-room (sizes (k ∷ x ∷ y ∷ [])) (key_of k) a b (λ e. omega (arith, p, q, get_long k e))
-turn-room (k ∷ x ∷ y ∷ z ∷ []) = go (number_of x) (number_of y)
+    go : (o : TheOption Key) → key_of k ≡ o → (u v : Option ℕ) → long u x → long v y → Roomy (sizes (k ∷ x ∷ y ∷ [])) (three_of o u v)
+    go None f u v p q = tt
+    go (Some w) f none v p q = tt
+    go (Some w) f (some a) none p q = tt
+    go (Some w) f (some a) (some b) p q = three-room (sizes (k ∷ x ∷ y ∷ [])) w a b (λ e. omega (arith, p, q, get_long k (ap is_get f ∙ e)))
+turn-room (k ∷ x ∷ y ∷ z ∷ []) = go (key_of k) (number_of x) (number_of y)
   where
-    go : (u v : Option ℕ) → Roomy (sizes (k ∷ x ∷ y ∷ z ∷ [])) (four_of (key_of k) u v (number_of z) (hex_of z))
-    go none v = tt
-    go (some a) none = tt
-    go (some a) (some b) = four-room (sizes (k ∷ x ∷ y ∷ z ∷ [])) (key_of k) a b (number_of z) (hex_of z)
+    go : (o : TheOption Key) (u v : Option ℕ) → Roomy (sizes (k ∷ x ∷ y ∷ z ∷ [])) (four_of o u v (number_of z) (hex_of z))
+    go None u v = tt
+    go (Some w) none v = tt
+    go (Some w) (some a) none = tt
+    go (Some w) (some a) (some b) = four-room (sizes (k ∷ x ∷ y ∷ z ∷ [])) w a b (number_of z) (hex_of z)
 turn-room (k ∷ x ∷ y ∷ z ∷ u ∷ ws) = tt
 
 line-room : (line : List ℕ) → Roomy (length line + 1) (line_turn line)

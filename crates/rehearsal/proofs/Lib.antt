@@ -5,7 +5,6 @@ pub mod Written
 pub mod RealDay
 pub mod Tallying
 pub mod Asking
-pub mod Filing
 pub mod Closing
 pub mod Stepping
 pub mod Making

@@ -1,7 +1,7 @@
 -- What the input plans: nothing where it is empty, too long or more than one line, and the plan of its nine numbers otherwise.
 -- Assumes nothing.
 use Prim.Native.Nat.{◌+◌, ◌<◌, ◌≤◌, suc, zero, ℕ}
-use mathlib.Core.Bool.{Bool, ◌&&◌, cond, false, not, true}
+use mathlib.Core.Bool.{Bool, ◌&&◌, cond, false, true}
 use mathlib.Core.List.{List, [], ◌∷◌}
 use mathlib.Core.Logic.{◌⊎◌, inl, inr}
 use mathlib.Core.Option.{Option, none, some}
@@ -13,10 +13,8 @@ use lib.ListN.{drop, drop_of_length-le, get_or, length, length-drop, take}
 use Rattle.block.specs.Lists.{all}
 use Rattle.laws.proofs.Accepted.{both}
 use Rattle.model.specs.History.{Bytes}
-use Rattle.rehearsal.specs.Nine.{nine_as}
 use Rattle.rehearsal.specs.Output.{Fits, Plan, no_plan, numbered, plan_at, plan_of, plan_text, ranged, rehearsal_output}
 use Rattle.rehearsal.specs.Rehearsal.{in_range}
-use Rattle.rehearsal.specs.declared.Numbers.{Numbers}
 use Rattle.text.proofs.Splitting.{lines_step}
 use Rattle.text.specs.Text.{lines, span_of, words}
 
@@ -98,18 +96,3 @@ pub lines_fit : (ls : List Bytes) (p : Plan) → plan_of ls ≡ some p → Fits 
 lines_fit [] p e = absurd (not_none p (sym e))
 lines_fit (l ∷ []) p e = plan_fits (numbered (words l)) p (sym e)
 lines_fit (l ∷ m ∷ ls) p e = absurd (not_none p (sym e))
-
--- what `nine` answers, by the code's test
-pub is_good : (r : Numbers) → not r.good ≡ false → nine_as r ≡ some (plan_at r.n)
-is_good r e = go r.good e
-  where
-    go : (b : Bool) → not b ≡ false → cond b (some (plan_at r.n)) none ≡ some (plan_at r.n)
-    go true e = refl
-    go false e = let z : ◌≡◌ {A = ℕ} 0 1 = cc in absurd (omega arith)
-
-pub not_good : (r : Numbers) → not r.good ≡ true → nine_as r ≡ none
-not_good r e = go r.good e
-  where
-    go : (b : Bool) → not b ≡ true → cond b (some (plan_at r.n)) none ≡ none
-    go true e = let z : ◌≡◌ {A = ℕ} 0 1 = cc in absurd (omega arith)
-    go false e = refl

@@ -44,9 +44,6 @@ module _ (l : List Setting) (t : ℕ) where
 pub few-asks : (n : ℕ) (w : Hall) (k : ℕ) → n ≤ 4_000 → Sane n w → (row_in w.rows k).asks < 4_294_967_295
 few-asks n w k le S = let i = (S.small k).1 in omega (arith, i, le)
 
-pub few-commits : (n : ℕ) (w : Hall) (k : ℕ) → n ≤ 4_000 → Sane n w → (row_in w.rows k).commits < 4_294_967_295
-few-commits n w k le S = let i = (S.small k).0 in omega (arith, i, le)
-
 -- ---- a day
 
 pub sane_fresh : (b : Buffers) → Sane 0 (hall_in b fresh_day)

@@ -13,7 +13,7 @@ use lib.Seq.{drop-drop, length-take-le, take_all, take-suc-set}
 use Rattle.block.specs.Lists.{all}
 use Rattle.laws.proofs.Rows.{and-nothing}
 use Rattle.model.specs.History.{Bytes}
-use Rattle.rehearsal.specs.Nine.{left_at, or_zero, plan_after, small_of}
+use Rattle.rehearsal.specs.Nine.{in_sixty, left_at, plan_after, small_of}
 use Rattle.rehearsal.specs.Output.{Plan, both, numbered, plan_at, plan_in, ranged}
 use Rattle.rehearsal.specs.Rehearsal.{in_range}
 use Rattle.text.proofs.Splitting.{words_last, words_more}
@@ -31,24 +31,39 @@ cond-none : (b : Bool) → cond {A = Option Plan} b none none ≡ none
 cond-none true = refl
 cond-none false = refl
 
--- a number that isn't 1 to 60
-out_of_range : (n : ℕ) → or_zero (some n) ≡ 0 → in_range n ≡ false
-out_of_range n e = go (leb n 60) refl e
+some_none : (n : ℕ) → some n ≡ none → ⊥
+some_none n e = let z : 1 ≡ 0 = ap count e in omega (arith, z)
   where
-    go : (b : Bool) → leb n 60 ≡ b → cond b n 0 ≡ 0 → (leb 1 n && leb n 60) ≡ false
-    go true f z = ap (λ (b : Bool). b && leb n 60) (lt-leb 1 n (omega (arith, z)))
-    go false f z = ap (λ (b : Bool). leb 1 n && b) f ∙ and-nothing (leb 1 n)
+    count : Option ℕ → ℕ
+    count none = 0
+    count (some k) = 1
+
+-- a number that is one from 1 to 60
+is_in_sixty : (x k : ℕ) → some x ≡ in_sixty (some k) → (x ≡ k) × (in_range k ≡ true)
+is_in_sixty x k z = go (in_range k) refl z
+  where
+    number : Option ℕ → ℕ
+    number none = x
+    number (some j) = j
+
+    go : (b : Bool) → in_range k ≡ b → some x ≡ cond b (some k) none → (x ≡ k) × (in_range k ≡ true)
+    go true f z = (ap number z, f)
+    go false f z = absurd (some_none x z)
 
 module _ (l : List ℕ) (ws : List Bytes) where
   -- a word that is no number from 1 to 60
-  pub bad_word : (w : Bytes) → small_of w ≡ 0 → plan_after l (numbered (w ∷ ws)) ≡ none
+  pub bad_word : (w : Bytes) → small_of w ≡ none → plan_after l (numbered (w ∷ ws)) ≡ none
   bad_word w e = go (number_of w) (numbered ws) e
     where
-      go : (o : Option ℕ) (m : Option (List ℕ)) → or_zero o ≡ 0 → plan_after l (both o m) ≡ none
+      not_in : (n : ℕ) (b : Bool) → cond b (some n) none ≡ none → b ≡ false
+      not_in n true z = absurd (some_none n z)
+      not_in n false z = refl
+
+      go : (o : Option ℕ) (m : Option (List ℕ)) → in_sixty o ≡ none → plan_after l (both o m) ≡ none
       go none m e = refl
       go (some n) none e = refl
       go (some n) (some m) e =
-          ap (λ (b : Bool). cond b (plan_in (l ++ (n ∷ m))) none) (all_both l (n ∷ m) ∙ ap (λ (b : Bool). all in_range l && (b && all in_range m)) (out_of_range n e) ∙ and-nothing (all in_range l))
+          ap (λ (b : Bool). cond b (plan_in (l ++ (n ∷ m))) none) (all_both l (n ∷ m) ∙ ap (λ (b : Bool). all in_range l && (b && all in_range m)) (not_in n (in_range n) e) ∙ and-nothing (all in_range l))
 
   -- a tenth word
   pub one_too_many : (w : Bytes) → 9 ≤ length l → plan_after l (numbered (w ∷ ws)) ≡ none
@@ -63,36 +78,22 @@ module _ (l : List ℕ) (ws : List Bytes) where
           ∙ cond-none (all in_range (l ++ (n ∷ m)))
 
   -- the next word
-  pub next_word : (w : Bytes) (x : ℕ) → x ≡ small_of w → (x ≡ 0 → ⊥) → plan_after l (numbered (w ∷ ws)) ≡ plan_after (l ++ (x ∷ [])) (numbered ws)
-  next_word w x e n = go (number_of w) (numbered ws) e
+  pub next_word : (w : Bytes) (x : ℕ) → some x ≡ small_of w → plan_after l (numbered (w ∷ ws)) ≡ plan_after (l ++ (x ∷ [])) (numbered ws)
+  next_word w x e = go (number_of w) (numbered ws) e
     where
-      same : (k : ℕ) → x ≡ cond (leb k 60) k 0 → x ≡ k
-      same k = pick (leb k 60)
-        where
-          pick : (b : Bool) → x ≡ cond b k 0 → x ≡ k
-          pick true z = z
-          pick false z = absurd (n z)
-
-      go : (o : Option ℕ) (m : Option (List ℕ)) → x ≡ or_zero o → plan_after l (both o m) ≡ plan_after (l ++ (x ∷ [])) m
-      go none m z = absurd (n z)
+      go : (o : Option ℕ) (m : Option (List ℕ)) → some x ≡ in_sixty o → plan_after l (both o m) ≡ plan_after (l ++ (x ∷ [])) m
+      go none m z = absurd (some_none x z)
       go (some k) none z = refl
       go (some k) (some m) z =
-          ap (λ (j : ℕ). ranged (some (l ++ (j ∷ m)))) (sym (same k z)) ∙ ap (λ (t : List ℕ). ranged (some t)) (sym (append_assoc l (x ∷ []) m))
+          ap (λ (j : ℕ). ranged (some (l ++ (j ∷ m)))) (sym (is_in_sixty x k z).0) ∙ ap (λ (t : List ℕ). ranged (some t)) (sym (append_assoc l (x ∷ []) m))
 
 -- the number is in range
-pub in_range_lem : (w : Bytes) (x : ℕ) → x ≡ small_of w → (x ≡ 0 → ⊥) → in_range x ≡ true
-in_range_lem w x e n = go (number_of w) e
+pub in_range_lem : (w : Bytes) (x : ℕ) → some x ≡ small_of w → in_range x ≡ true
+in_range_lem w x e = go (number_of w) e
   where
-    pick : (k : ℕ) (b : Bool) → leb k 60 ≡ b → x ≡ cond b k 0 → (leb 1 x && leb x 60) ≡ true
-    pick k true f z = ap₂ ◌&&◌ (le-leb 1 x (low x n)) (ap (λ (j : ℕ). leb j 60) z ∙ f)
-      where
-        low : (x : ℕ) → (x ≡ 0 → ⊥) → 1 ≤ x
-        low x n = omega (arith, n)
-    pick k false f z = absurd (n z)
-
-    go : (o : Option ℕ) → x ≡ or_zero o → (leb 1 x && leb x 60) ≡ true
-    go none z = absurd (n z)
-    go (some k) z = pick k (leb k 60) refl z
+    go : (o : Option ℕ) → some x ≡ in_sixty o → in_range x ≡ true
+    go none z = absurd (some_none x z)
+    go (some k) z = let p = is_in_sixty x k z in ap in_range p.0 ∙ p.1
 
 -- no word is left
 pub words-done : (l : List ℕ) → all in_range l ≡ true → plan_after l (numbered []) ≡ plan_in l

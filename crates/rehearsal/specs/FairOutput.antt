@@ -1,6 +1,6 @@
 -- What the printed numbers say of a plan (W8): "Asks equal commits plus the one waiting or holding, if any. No completed wait exceeds the holding times of the other three together."
 -- Assumes nothing.
-use Rattle.std.specs.Prelude.{◌+◌, ◌-◌, ◌≤◌, ℕ, cond, true, List, map, ◌≡◌, get_or, length}
+use Rattle.std.specs.Prelude.{◌+◌, ◌-◌, ◌≤◌, ℕ, cond, List, map, ◌≡◌, get_or, length, is_some, IfSome, Option as TheOption}
 use Rattle.std.proofs.Math.Option.{some}
 use Rattle.block.specs.Lists.{All}
 use Rattle.model.specs.History.{Bytes}
@@ -8,8 +8,8 @@ use Rattle.rehearsal.specs.Outcomes.{can_run}
 use Rattle.rehearsal.specs.Output.{Plan, plan_of, rehearsal_output, report_in, rows_text}
 use Rattle.rehearsal.specs.Rehearsal.{Day, Report, day_of, greatest, others, row_of}
 use Rattle.rehearsal.specs.RehearsalCalls.{Real, hall_of, row_in}
-use Rattle.rehearsal.specs.declared.Outcome.{Outcome}
 use Rattle.rehearsal.specs.declared.Setting.{Setting}
+use Rattle.rehearsal.specs.declared.Tally.{Tally}
 use Rattle.text.specs.Text.{lines}
 use Rattle.turns.specs.Turns.{is_in}
 
@@ -37,9 +37,9 @@ pub record FairText (p : Plan) (text : Bytes) : Type 0 where
   pub real : Real p.settings p.steps (hall_of p.settings p.steps)
 
 -- THE STATEMENT, of what `rehearse` hands back: where it says that there is a day, and it says so exactly of four settings with every number in range
-pub record FairOutcome (l : List Setting) (n : ℕ) (o : Outcome) : Type 0 where
-  pub exactly : o.good ≡ can_run l n
-  pub fair : o.good ≡ true → (s : ℕ) → 1 ≤ s → s ≤ 4 → FairReport l (day_of l n) s (report_in (row_in o.rows s))
+pub record FairOutcome (l : List Setting) (n : ℕ) (o : TheOption (List Tally)) : Type 0 where
+  pub exactly : is_some o ≡ can_run l n
+  pub fair : IfSome o (λ (rows : List Tally). (s : ℕ) → 1 ≤ s → s ≤ 4 → FairReport l (day_of l n) s (report_in (row_in rows s)))
 
 -- THE STATEMENT, of the text that `run` writes
 abbrev pub FairOutput : Type 0

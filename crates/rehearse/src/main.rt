@@ -1,26 +1,12 @@
 // Reads standard input to its end, or to one byte more than the program takes, and writes the output of it.
 #![tactic(auto)]
 
-ghost use Rattle.std.specs.Prelude.{◌≡◌, length};
-
-// One byte more than the program takes.
-fn input_space() -> [u8; 4097]
-    ensures { 4_097 ≡ length result }
-{
-    [0; 4097]
-}
-
-// Room for every output: four lines of three numbers.
-fn output_space() -> [u8; 132]
-    ensures { 132 ≡ length result }
-{
-    [0; 132]
-}
-
 fn main() {
-    let mut input = input_space();
+    // One byte more than the program takes.
+    let mut input = text::zeros::<4097>();
     let n = io::read_full(0, &mut input);
-    let mut out = output_space();
+    // Room for every output: four lines of three numbers.
+    let mut out = text::zeros::<132>();
     let k = rehearsal::run(&input[..n], &mut out);
     io::write_all(1, &out[..k]);
 }

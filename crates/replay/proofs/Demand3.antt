@@ -1,6 +1,7 @@
 -- Demand 3 in code: a script run by `replay` on a fresh store of 2 to 4,096 blocks and four fresh copies. What whoever calls `replay` learns is taken from that function's own contract
 -- (`Learnt`), and that the code meets the contract (`met`) stands in the same record.
 -- Assumes nothing.
+use Rattle.std.specs.Prelude.{Result}
 use Prim.Native.Nat.{◌*◌, ◌<◌, ◌≤◌, ℕ}
 use mathlib.Core.List.{List, ◌++◌}
 use mathlib.Core.Option.{Option, none, some}
@@ -29,6 +30,7 @@ use Rattle.replay.specs.Encoding.{AllRecorded, script_of}
 use Rattle.replay.specs.Records.{records_of}
 use Rattle.replay.specs.Replay.{Replayed, replay_by, replay_refusal}
 use Rattle.replay.specs.Script.{turns_of}
+use Rattle.model.specs.declared.Refusal.{Refusal}
 
 -- THE STATEMENT
 
@@ -41,11 +43,11 @@ pub record ScriptDone (N : ℕ) (ts : List Turn) (old store copies records : Byt
 pub record ReplayDemand3 : Type 2 where
   pub replay_meets : (M : Type 1) → replay-statement.statement M
   -- a script of bytes, done on fresh buffers
-  pub scripts : (N : ℕ) → 2 ≤ N → N ≤ 4_096 → (κs : Lfts 4) (s : Bor Bytes) (x y z : MutBor Bytes) (s' : Bor Bytes) (x' y' z' : MutBor Bytes) (r : TheAnswer) → ((i : ℕ) → get_or s.now i 0 < 256)
+  pub scripts : (N : ℕ) → 2 ≤ N → N ≤ 4_096 → (κs : Lfts 4) (s : Bor Bytes) (x y z : MutBor Bytes) (s' : Bor Bytes) (x' y' z' : MutBor Bytes) (r : Result TheAnswer Refusal) → ((i : ℕ) → get_or s.now i 0 < 256)
       → buffers_in x.now y.now ≡ fresh_buffers N → replay-reads.Learnt κs (s, (x, (y, (z, tt)))) r (s', (x', (y', (z', tt)))) → answer_of r ≡ done
       → ScriptDone N (turns_of s.now) z.now x'.now y'.now z'.now
   -- any list of calls by four seats that records have room for, refused ones included, given as its script
-  pub lists : (N : ℕ) → 2 ≤ N → N ≤ 4_096 → (ts : List Turn) → AllRecorded ts → (κs : Lfts 4) (s : Bor Bytes) (x y z : MutBor Bytes) (s' : Bor Bytes) (x' y' z' : MutBor Bytes) (r : TheAnswer) → s.now ≡ script_of ts
+  pub lists : (N : ℕ) → 2 ≤ N → N ≤ 4_096 → (ts : List Turn) → AllRecorded ts → (κs : Lfts 4) (s : Bor Bytes) (x y z : MutBor Bytes) (s' : Bor Bytes) (x' y' z' : MutBor Bytes) (r : Result TheAnswer Refusal) → s.now ≡ script_of ts
       → buffers_in x.now y.now ≡ fresh_buffers N → replay-reads.Learnt κs (s, (x, (y, (z, tt)))) r (s', (x', (y', (z', tt)))) → answer_of r ≡ done
       → ScriptDone N ts z.now x'.now y'.now z'.now
 
@@ -59,7 +61,7 @@ was_done (some n) ts b d e q = absurd (apart (sym q ∙ ap (λ (x : Replayed). x
     apart : done ≡ refused n → ⊥
     apart p = let z : ◌≡◌ {A = ℕ} 0 1 = cc in omega arith
 
-scripts_done : (N : ℕ) → 2 ≤ N → N ≤ 4_096 → (κs : Lfts 4) (s : Bor Bytes) (x y z : MutBor Bytes) (s' : Bor Bytes) (x' y' z' : MutBor Bytes) (r : TheAnswer) → ((i : ℕ) → get_or s.now i 0 < 256)
+scripts_done : (N : ℕ) → 2 ≤ N → N ≤ 4_096 → (κs : Lfts 4) (s : Bor Bytes) (x y z : MutBor Bytes) (s' : Bor Bytes) (x' y' z' : MutBor Bytes) (r : Result TheAnswer Refusal) → ((i : ℕ) → get_or s.now i 0 < 256)
     → buffers_in x.now y.now ≡ fresh_buffers N → replay-reads.Learnt κs (s, (x, (y, (z, tt)))) r (s', (x', (y', (z', tt)))) → answer_of r ≡ done
     → ScriptDone N (turns_of s.now) z.now x'.now y'.now z'.now
 scripts_done N lo hi κs s x y z s' x' y' z' r small fresh₀ L q =

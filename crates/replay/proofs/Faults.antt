@@ -1,5 +1,6 @@
 -- The check of the five buffers, one line after the other.
 -- Assumes nothing.
+use Rattle.std.specs.Prelude.{Err, Ok}
 use Prim.Native.Nat.{◌*◌, ◌+◌, ◌-◌, ◌<◌, ◌≤◌, suc, zero, ℕ}
 use mathlib.Core.Bool.{Bool, ◌||◌, false, not, true}
 use mathlib.Core.List.{List, [], ◌++◌, ◌∷◌}
@@ -9,11 +10,11 @@ use mathlib.Core.Path.{◌∙◌, ◌≡◌, ap, subst, sym}
 use native.Mathlib.Omega.{arith}
 use borrow.Author.Tests.{eq-eqb, eqb-true, le-ltb, lt-ltb, ltb-false, ne_eqb, not-false}
 use lib.Dec.{eqb, ltb}
-use lib.ListN.{drop, length, take}
+use lib.ListN.{drop, length, length-append, length-drop, take}
+use lib.Seq.{drop-drop, drop_at, take_at}
 use Rattle.block.proofs.Says.{eq_or}
 use Rattle.entries.proofs.Checking.{check_ready, check_refused, fitting_accepted}
 use Rattle.entries.specs.View.{check_of}
-use Rattle.entries.specs.declared.Checked.TheVariants.{Ready, Refused}
 use Rattle.entries.specs.declared.View.{View}
 use Rattle.inner.proofs.Refusing.{first-stays}
 use Rattle.laws.proofs.Conditions.{clear, clear_first, clear_split, none-holds}
@@ -30,19 +31,18 @@ use Rattle.replay.specs.Script.{script_ok}
 use Rattle.store.proofs.Opening.{open_accepted, open_refused}
 use Rattle.store.specs.Opened.{open_of}
 use Rattle.store.specs.declared.Header.{Header}
-use Rattle.store.specs.declared.Opened.TheVariants.{Open, Refused as NotOpen}
 
 -- a list that no line of which holds, before others
 passed : (cs ds : List Condition) → first_of cs ≡ none → first_of (cs ++ ds) ≡ first_of ds
 passed cs ds e = clear_first cs ds (clear cs e)
 
-module _ (store copy : Bytes) (h : Header) (o : open_of store ≡ Open h) (seat : ℕ) where
-  pub fault_refused : (k : Refusal) → check_of store copy ≡ Refused k → some (number_of k) ≡ first_of (copy_lines store copy seat)
+module _ (store copy : Bytes) (h : Header) (o : open_of store ≡ Ok h) (seat : ℕ) where
+  pub fault_refused : (k : Refusal) → check_of store copy ≡ Err k → some (number_of k) ≡ first_of (copy_lines store copy seat)
   fault_refused k e =
       let p : first_of (copy_conditions store copy) ≡ some (number_of k) = sym (passed (store_conditions store) (copy_conditions store copy) (open_accepted store h o).0) ∙ check_refused store copy k e in
       sym (first-stays (copy_conditions store copy) (7 when not (eqb (seat_of copy) seat) ∷ []) (number_of k) p)
 
-  module _ (v : View) (e : check_of store copy ≡ Ready v) where
+  module _ (v : View) (e : check_of store copy ≡ Ok v) where
     last_line : first_of (copy_lines store copy seat) ≡ first_of (7 when not (eqb v.seat seat) ∷ [])
     last_line =
         let F = check_ready store copy v e in
@@ -55,6 +55,15 @@ module _ (store copy : Bytes) (h : Header) (o : open_of store ≡ Open h) (seat 
     pub fault_free : v.seat ≡ seat → none ≡ first_of (copy_lines store copy seat)
     fault_free q = sym (last_line ∙ rw (eq-eqb v.seat seat q))
 
+-- the next of the chunks of four copies, k of which have come
+pub chunk_next : (l x y : Bytes) (k : ℕ) → length l ≡ 67_584 → drop (16_896 * k) l ≡ x ++ y → length x ≡ 16_896 → (k < 4) × (x ≡ copy_at l k) × (y ≡ drop (16_896 * (k + 1)) l)
+chunk_next l x y k four e s =
+    let n : 16_896 * k + 16_896 ≡ 16_896 * (k + 1) = omega arith in (
+      omega (arith, length-drop (16_896 * k) l, ap length e, length-append x y),
+      sym (take_at x y 16_896 s) ∙ ap (take 16_896) (sym e),
+      sym (drop_at x y 16_896 s) ∙ ap (drop 16_896) (sym e) ∙ drop-drop 16_896 (16_896 * k) l ∙ ap (λ (m : ℕ). drop m l) n,
+    )
+
 module _ (store copies : Bytes) (k : ℕ) (h : k < 4) where
   lines_next : lines_from store copies k (4 - k) ≡ copy_lines store (copy_at copies k) (k + 1) ++ lines_from store copies (k + 1) (4 - (k + 1))
   unfolding lines_from
@@ -63,9 +72,9 @@ module _ (store copies : Bytes) (k : ℕ) (h : k < 4) where
       let s : suc k ≡ k + 1 = omega arith in
       ap (lines_from store copies k) n ∙ ap (λ (j : ℕ). copy_lines store (copy_at copies k) j ++ lines_from store copies j (4 - (k + 1))) s
 
-  -- the copy as the code takes it, with m from its two ends
-  pub lines_here : {f : Option ℕ} {m : ℕ} → m ≡ 16_896 → f ≡ first_of (copy_lines store (take m (drop (16_896 * k) copies)) (k + 1)) → f ≡ first_of (copy_lines store (copy_at copies k) (k + 1))
-  lines_here {m = m} e q = q ∙ ap (λ (n : ℕ). first_of (copy_lines store (take n (drop (16_896 * k) copies)) (k + 1))) e
+  -- the copy as it comes
+  pub lines_here : {f : Option ℕ} {x : Bytes} {j : ℕ} → x ≡ copy_at copies k → j ≡ k → f ≡ first_of (copy_lines store x (j + 1)) → f ≡ first_of (copy_lines store (copy_at copies k) (k + 1))
+  lines_here e i q = q ∙ (λ m. first_of (copy_lines store (e m) (i m + 1)))
 
   pub lines-refused : (n : ℕ) → some n ≡ first_of (copy_lines store (copy_at copies k) (k + 1)) → some n ≡ first_of (lines_from store copies k (4 - k))
   lines-refused n e = sym (ap first_of lines_next ∙ first-stays (copy_lines store (copy_at copies k) (k + 1)) (lines_from store copies (k + 1) (4 - (k + 1))) n (sym e))
@@ -87,11 +96,11 @@ module _ (script store copies answers : Bytes) where
   abbrev next_lines : List Condition
   next_lines = 4 when not (eqb (length copies) 67_584) ∷ copies_lines
 
-  pub check_store : (k : Refusal) → open_of store ≡ NotOpen k → replay_refusal script store copies answers ≡ some (number_of k)
+  pub check_store : (k : Refusal) → open_of store ≡ Err k → replay_refusal script store copies answers ≡ some (number_of k)
   unfolding replay_refusal
   check_store k e = first-stays (store_conditions store) next_lines (number_of k) (open_refused store k e)
 
-  module _ (h : Header) (o : open_of store ≡ Open h) where
+  module _ (h : Header) (o : open_of store ≡ Ok h) where
     after_store : replay_refusal script store copies answers ≡ first_of next_lines
     unfolding replay_refusal
     after_store = passed (store_conditions store) next_lines (open_accepted store h o).0

@@ -1,5 +1,6 @@
 -- A run of a script is the machine's run over its calls.
 -- Assumes nothing.
+use Rattle.std.specs.Prelude.{Err, Ok, Result}
 use Prim.Native.Nat.{◌*◌, ◌+◌, ◌-◌, ◌/◌, ◌<◌, ◌≤◌, suc, zero, ℕ}
 use mathlib.Core.Bool.{true}
 use mathlib.Core.List.{List, [], ◌++◌, ◌∷◌, append_assoc}
@@ -21,7 +22,7 @@ use Rattle.model.specs.Shows.{Accepted, AllAccepted, Shows, state_in}
 use Rattle.model.specs.Store.{block_count}
 use Rattle.model.specs.Types.{number_of}
 use Rattle.model.specs.WorkCopy.{seat_of}
-use Rattle.model.specs.declared.Answer.TheVariants.{Done, Refused}
+use Rattle.model.specs.declared.Answer.TheVariants.{Done}
 use Rattle.model.specs.declared.Refusal.{Refusal}
 use Rattle.replay.proofs.Copies.{after, copy_is, length-copies, length_with, put-copies, upto}
 use Rattle.replay.proofs.Faults.{copies-size, copy-clear, room-enough, script_good, store_taken_lem}
@@ -35,8 +36,6 @@ use Rattle.replay.specs.Script.{script_ok, turns_from, turns_of}
 use Rattle.replay.specs.Steps.{Running}
 use Rattle.store.specs.Opened.{open_of}
 use Rattle.store.specs.declared.Header.{Header}
-use Rattle.store.specs.declared.Opened.{Opened}
-use Rattle.store.specs.declared.Opened.TheVariants.{Open}
 use Rattle.workcopy.proofs.Scan.{all-bytes}
 
 -- ---- the calls of a good script are calls that a caller can give
@@ -190,7 +189,7 @@ module _ (script store copies old : Bytes) (small : (i : ℕ) → get_or script 
       }
 
   -- what a run asks for
-  pub run-asks : (h : Header) → open_of store ≡ Open h → Running script store copies old h
+  pub run-asks : (h : Header) → open_of store ≡ Ok h → Running script store copies old h
   run-asks h o = record {
     good = script_good script store copies old e;
     ready = record { all = four-accepted; size = copies-size script store copies old e; «open» = o };
@@ -198,7 +197,7 @@ module _ (script store copies old : Bytes) (small : (i : ℕ) → get_or script 
   }
 
 module _ (script store copies old : Bytes) where
-  pub replay_refused : (k : Refusal) → replay_refusal script store copies old ≡ some (number_of k) → Replays script store copies old (Refused k) store copies old
+  pub replay_refused : (k : Refusal) → replay_refusal script store copies old ≡ some (number_of k) → Replays script store copies old (Err k) store copies old
   replay_refused k e = record {
     is = sym (ap (λ (o : Option ℕ). replay_by o (turns_of script) (desk store copies old)) e);
     machine = λ n. absurd (apart (sym e ∙ n));
@@ -208,11 +207,11 @@ module _ (script store copies old : Bytes) where
       apart q = let z : ◌≡◌ {A = ℕ} 0 1 = cc in omega arith
 
   pub replay_done : ((i : ℕ) → get_or script i 0 < 256) → replay_refusal script store copies old ≡ none → {store' copies' answers' : Bytes}
-      → desk store' copies' answers' ≡ ran_from 0 (turns_of script) (desk store copies old) → Replays script store copies old Done store' copies' answers'
+      → desk store' copies' answers' ≡ ran_from 0 (turns_of script) (desk store copies old) → Replays script store copies old (Ok Done) store' copies' answers'
   replay_done small e q = record {
     is = ap (λ (d : Desk). record { says = done; left = d }) q ∙ sym (ap (λ (o : Option ℕ). replay_by o (turns_of script) (desk store copies old)) e);
     machine = λ n. machine_ran script store copies old small e q;
   }
 
-  pub checked : {c d : Opened} → c ≡ d → Checks script store copies old c → Checks script store copies old d
+  pub checked : {c d : Result Header Refusal} → c ≡ d → Checks script store copies old c → Checks script store copies old d
   checked q C = subst (Checks script store copies old) q C

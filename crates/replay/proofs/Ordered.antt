@@ -1,6 +1,7 @@
 -- W1 of document 02 for scripts: which stores `replay` takes, and what it leaves in them. What whoever calls `replay` learns is taken from that function's own contract (`Learnt`), and that
 -- the code meets the contract (`met`) stands in the same record. The calls of a script are `turns_of`; every list of calls is the list of its script (Encoding).
 -- Assumes nothing.
+use Rattle.std.specs.Prelude.{Result}
 use Prim.Native.Nat.{◌*◌, ◌<◌, ◌≤◌, suc, zero, ℕ}
 use mathlib.Core.Bool.{Bool, ◌||◌, cond, false, not, true}
 use mathlib.Core.List.{List, [], ◌++◌, ◌∷◌}
@@ -38,12 +39,13 @@ use Rattle.replay.specs.Desk.{Desk, buffers_in, copy_at, desk}
 use Rattle.replay.specs.Records.{records_of}
 use Rattle.replay.specs.Replay.{Replayed, copy_lines, lines_from, replay_by, replay_refusal}
 use Rattle.replay.specs.Script.{script_ok, turns_of}
+use Rattle.model.specs.declared.Refusal.{Refusal}
 
 -- THE STATEMENT
 
 -- a script that `replay` ran as code does: on this store and these copies it answers done, and leaves this store
 pub data Ran : Bytes → Bytes → Bytes → Bytes → Type 0 where
-  ran : {r : TheAnswer} (κs : Lfts 4) (s : Bor Bytes) (x y z : MutBor Bytes) (s' : Bor Bytes) (x' y' z' : MutBor Bytes) → ((i : ℕ) → get_or s.now i 0 < 256)
+  ran : {r : Result TheAnswer Refusal} (κs : Lfts 4) (s : Bor Bytes) (x y z : MutBor Bytes) (s' : Bor Bytes) (x' y' z' : MutBor Bytes) → ((i : ℕ) → get_or s.now i 0 < 256)
       → replay-reads.Learnt κs (s, (x, (y, (z, tt)))) r (s', (x', (y', (z', tt)))) → answer_of r ≡ done → Ran s.now x.now y.now x'.now
 
 -- the commits and releases of a script that are accepted on a fresh store of N blocks, in their common order
@@ -51,7 +53,7 @@ abbrev pub log_of : ℕ → Bytes → Log
 log_of N script = accepted_log (fresh N) (turns_of script)
 
 -- of a script on buffers whose store is a layout of the commits h, with any releases among them, where `old` are the answers' buffer before and `records` after
-pub record Taken (script : Bytes) (b : Buffers) (old : Bytes) (h : History) (r : TheAnswer) (records : Bytes) : Type 0 where
+pub record Taken (script : Bytes) (b : Buffers) (old : Bytes) (h : History) (r : Result TheAnswer Refusal) (records : Bytes) : Type 0 where
   pub refusals : (n : ℕ) → answer_of r ≡ refused n → 4 ≤ n
   pub history : (state_in b).history ≡ h
   pub answer : answer_of r ≡ done → records ≡ records_of (answers (state_in b) (turns_of script)) ++ drop (512 * length (turns_of script)) old
@@ -60,7 +62,7 @@ pub record ReplayOrdered : Type 2 where
   pub replay_meets : (M : Type 1) → replay-statement.statement M
   -- "Stores already written in another order are still accepted and read.": a store that is a layout of a history, in whatever order, is no reason to refuse a script (refusals 1 to 3), and the
   -- answers of a script that is run, those of read among them, are the machine's from that history
-  pub another : (κs : Lfts 4) (s : Bor Bytes) (x y z : MutBor Bytes) (s' : Bor Bytes) (x' y' z' : MutBor Bytes) (r : TheAnswer) → replay-reads.Learnt κs (s, (x, (y, (z, tt)))) r (s', (x', (y', (z', tt))))
+  pub another : (κs : Lfts 4) (s : Bor Bytes) (x y z : MutBor Bytes) (s' : Bor Bytes) (x' y' z' : MutBor Bytes) (r : Result TheAnswer Refusal) → replay-reads.Learnt κs (s, (x, (y, (z, tt)))) r (s', (x', (y', (z', tt))))
       → (g : Log) → LaidStore x.now g → Taken s.now (buffers_in x.now y.now) z.now (commits g) r z'.now
   -- "From now on a commit writes its changes by rising sheet number, and its content blocks in the order of the changes that point to them.": behind the blocks in use, which stay, in
   -- whatever order they are, the commits that were accepted and the releases; a tail that is left counts as zero blocks
@@ -125,7 +127,7 @@ not_for_store script store copies old n t e =
     (lit≤ tt, all_append (λ (c : Condition). 4 ≤ c.number) (lines_from store copies 0 4) (end ∷ []) (later_lines store copies 0 4) (lit≤ tt, tt))
     (sym (clear_first (store_conditions store) rest (clear (store_conditions store) t)) ∙ e)
 
-any_layout : (κs : Lfts 4) (s : Bor Bytes) (x y z : MutBor Bytes) (s' : Bor Bytes) (x' y' z' : MutBor Bytes) (r : TheAnswer) → replay-reads.Learnt κs (s, (x, (y, (z, tt)))) r (s', (x', (y', (z', tt))))
+any_layout : (κs : Lfts 4) (s : Bor Bytes) (x y z : MutBor Bytes) (s' : Bor Bytes) (x' y' z' : MutBor Bytes) (r : Result TheAnswer Refusal) → replay-reads.Learnt κs (s, (x, (y, (z, tt)))) r (s', (x', (y', (z', tt))))
     → (g : Log) → LaidStore x.now g → Taken s.now (buffers_in x.now y.now) z.now (commits g) r z'.now
 any_layout κs s x y z s' x' y' z' r L g l =
     let D = demand_two x.now [] in

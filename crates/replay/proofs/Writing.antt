@@ -1,5 +1,6 @@
 -- The record of an answer, written into zeros.
 -- Assumes nothing.
+use Rattle.std.specs.Prelude.{Ok, Result}
 use Prim.Native.Nat.{◌-◌, ℕ}
 use mathlib.Core.List.{List}
 use mathlib.Core.Path.{◌∙◌, ◌≡◌, ap, sym}
@@ -50,7 +51,7 @@ module _ {l : Bytes} (z : l ≡ zeros) where
 
   pub log_record : (g : LogEntry) {a s r : ℕ} {t1 t2 t3 t4 t5 t6 : Bytes} → a ≡ action_number g.action → s ≡ source_sheet g.action → r ≡ source_revision g.action
       → t1 ≡ with_four l 4 g.seat → t2 ≡ with_four t1 8 g.stamp → t3 ≡ with_four t2 12 g.changes → t4 ≡ with_four t3 16 a → t5 ≡ with_four t4 20 s → t6 ≡ with_four t5 24 r
-      → t6 ≡ record_of (answer_of (Logged g))
+      → t6 ≡ record_of (answer_of (Ok (Logged g)))
   unfolding record_of
   log_record g ea es er e1 e2 e3 e4 e5 e6 =
       let q1 = e1 ∙ ap (λ (x : Bytes). with_four x 4 g.seat) z in
@@ -61,5 +62,5 @@ module _ {l : Bytes} (z : l ≡ zeros) where
       e6 ∙ (λ i. with_four (q5 i) 24 (er i))
 
 -- of an answer that is known
-pub answered : {a b : Answer} → a ≡ b → {t : Bytes} → t ≡ record_of (answer_of b) → t ≡ record_of (answer_of a)
-answered p e = e ∙ ap (λ (x : Answer). record_of (answer_of x)) (sym p)
+pub answered : {a b : Result Answer Refusal} → a ≡ b → {t : Bytes} → t ≡ record_of (answer_of b) → t ≡ record_of (answer_of a)
+answered p e = e ∙ ap (λ (x : Result Answer Refusal). record_of (answer_of x)) (sym p)

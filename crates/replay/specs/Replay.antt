@@ -1,6 +1,6 @@
 -- What `replay` answers and leaves: a refusal and every buffer as it was, or the machine's run over the calls of the script.
 -- Assumes nothing.
-use Rattle.std.specs.Prelude.{◌*◌, suc, zero, ℕ, ◌||◌, not, List, [], ◌++◌, ◌∷◌, ◌≡◌, eqb, ltb, drop, length}
+use Rattle.std.specs.Prelude.{◌*◌, suc, zero, ℕ, ◌||◌, not, List, [], ◌++◌, ◌∷◌, ◌≡◌, eqb, ltb, drop, length, Result}
 use Rattle.std.proofs.Math.Option.{Option, none, some}
 use Rattle.model.specs.Calls.{Buffers, copy_conditions, store_conditions}
 use Rattle.model.specs.History.{Bytes}
@@ -15,6 +15,7 @@ use Rattle.model.specs.declared.Answer.{Answer as TheAnswer}
 use Rattle.replay.specs.Desk.{Desk, buffers_in, copy_at, desk, ran_from}
 use Rattle.replay.specs.Records.{records_of}
 use Rattle.replay.specs.Script.{script_ok, turns_of}
+use Rattle.model.specs.declared.Refusal.{Refusal}
 
 -- of the copy at place k: refusals 5 and 6, and 7 where it is not that of seat k + 1
 abbrev pub copy_lines : Bytes → Bytes → ℕ → List Condition
@@ -48,6 +49,6 @@ pub record MachineRan (b : Buffers) (ts : List Turn) (old store' copies' answers
   pub answer : answers' ≡ records_of (answers (state_in b) ts) ++ drop (512 * length ts) old
   pub shows : Shows (block_count b.store) (buffers_in store' copies') (run (state_in b) ts)
 
-pub record Replays (script store copies old : Bytes) (r : TheAnswer) (store' copies' answers' : Bytes) : Type 0 where
+pub record Replays (script store copies old : Bytes) (r : Result TheAnswer Refusal) (store' copies' answers' : Bytes) : Type 0 where
   pub is : record { says = answer_of r; left = desk store' copies' answers' } ≡ replay_by (replay_refusal script store copies old) (turns_of script) (desk store copies old)
   pub machine : replay_refusal script store copies old ≡ none → MachineRan (buffers_in store copies) (turns_of script) old store' copies' answers'

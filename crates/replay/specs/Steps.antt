@@ -1,6 +1,6 @@
 -- What the steps of a run ask for and leave.
 -- Assumes nothing.
-use Rattle.std.specs.Prelude.{◌-◌, ◌<◌, ◌≤◌, true, ◌≡◌, get_or, length}
+use Rattle.std.specs.Prelude.{◌-◌, ◌<◌, ◌≤◌, true, ◌≡◌, get_or, length, Ok}
 use Rattle.entries.specs.View.{Fitting}
 use Rattle.entries.specs.declared.View.{View}
 use Rattle.inner.specs.Performs.{Within}
@@ -13,7 +13,6 @@ use Rattle.replay.specs.Records.{record_of}
 use Rattle.replay.specs.Script.{record_ok, script_ok, turn_in}
 use Rattle.store.specs.Opened.{open_of}
 use Rattle.store.specs.declared.Header.{Header}
-use Rattle.store.specs.declared.Opened.TheVariants.{Open}
 
 -- a place that ends within its buffer, and buffers whose lengths are small numbers
 pub record Reachable (store copy : Bytes) (r : Reply) : Type 0 where
@@ -39,7 +38,7 @@ pub record Stepped (r store copy : Bytes) (v : View) (h : Header) (store' copy' 
 pub record Set (store copies : Bytes) (h : Header) : Type 0 where
   pub all : AllAccepted (buffers_in store copies)
   pub size : length copies ≡ 67_584
-  pub «open» : open_of store ≡ Open h
+  pub «open» : open_of store ≡ Ok h
 
 pub record Turning (r store copies : Bytes) (h : Header) (answer : Bytes) : Type 0 where
   pub good : record_ok r ≡ true

@@ -16,12 +16,11 @@ ghost use Rattle.replay.specs.Replay.{Replays, copy_lines, lines_from};
 ghost use Rattle.replay.specs.Script.{call_in, kind_ok, record_ok, script_ok, turns_of};
 ghost use Rattle.replay.specs.Steps.{Reachable, Running, Stepped, Stepping, Turned, Turning};
 ghost use Rattle.store.specs.Opened.{open_of};
-ghost use Rattle.store.specs.declared.Opened.TheVariants.{Open};
 
-use entries::{Checked, View};
+use entries::View;
 use inner::{Call, Reply};
 use model::{Answer, LogEntry, Place, Refusal, Standing};
-use store::{Header, Opened};
+use store::Header;
 
 // ---- the script
 
@@ -29,113 +28,53 @@ use store::{Header, Opened};
 fn kind_ok(kind: u8) -> bool
     ensures { result ≡ kind_ok kind }
 {
-    if kind < 1 {
-        return false;
-    }
-    if kind <= 15 {
-        return true;
-    }
-    if kind < 20 {
-        return false;
-    }
-    kind <= 21
+    matches!(kind, 1..=15 | 20 | 21)
 }
 
 // Whether a record has a kind and a seat, and its bytes end within it.
+#[tactic(auto, unfolding(crate::specs::Script::record_ok))]
 fn record_ok(rec: &[u8]) -> bool
     ensures { result ≡ record_ok rec.now }
 {
-    let kind = block::byte(rec, 0);
-    let seat = block::byte(rec, 1);
-    if !kind_ok(kind) {
-        return false;
-    }
-    if seat < 1 {
-        return false;
-    }
-    if 4 < seat {
-        return false;
-    }
-    block::get16(rec, 2) <= 496
+    kind_ok(block::byte(rec, 0))
+        && matches!(block::byte(rec, 1), 1..=4)
+        && block::get16(rec, 2) <= 496
 }
 
 // Whether the script is whole records, each of them good.
 fn script_ok(script: &[u8]) -> bool
     ensures { result ≡ script_ok script.now }
 {
-    if script.len() % 512 != 0 {
-        return false;
-    }
-    let n = script.len() / 512;
-    let mut i: usize = 0;
-    while i < n {
-        let a = 512 * i;
-        let e = a + 512;
-        if !record_ok(&script[a..e]) {
-            return false;
-        }
-        i += 1;
-    }
-    true
+    script.len() % 512 == 0 && script.chunks_exact(512).all(record_ok)
 }
 
 // The call of a record.
+#[tactic(auto, unfolding(crate::specs::Script::call_in))]
 fn decode(rec: &[u8]) -> Call
     ensures { result ≡ call_in rec.now }
 {
-    let kind = block::byte(rec, 0);
     let a = block::get32(rec, 4);
     let b = block::get32(rec, 8);
     let c = block::get32(rec, 12);
-    if kind == 1 {
-        return Call::Add(a);
+    match block::byte(rec, 0) {
+        1 => Call::Add(a),
+        2 => Call::Edit(a),
+        3 => Call::Delete(a),
+        4 => Call::Copy(a, b),
+        5 => Call::Move(a, b),
+        6 => Call::Commit(a, b),
+        7 => Call::Update(a, b),
+        8 => Call::Revert(a),
+        9 => Call::Read(a, b),
+        10 => Call::Show(a),
+        11 => Call::Status(a),
+        12 => Call::Log(a, b),
+        13 => Call::Clear,
+        14 => Call::CommitCut(a, b, c),
+        15 => Call::ClearCut(a),
+        20 => Call::Release(a, c, b),
+        _ => Call::Panel(a, b),
     }
-    if kind == 2 {
-        return Call::Edit(a);
-    }
-    if kind == 3 {
-        return Call::Delete(a);
-    }
-    if kind == 4 {
-        return Call::Copy(a, b);
-    }
-    if kind == 5 {
-        return Call::Move(a, b);
-    }
-    if kind == 6 {
-        return Call::Commit(a, b);
-    }
-    if kind == 7 {
-        return Call::Update(a, b);
-    }
-    if kind == 8 {
-        return Call::Revert(a);
-    }
-    if kind == 9 {
-        return Call::Read(a, b);
-    }
-    if kind == 10 {
-        return Call::Show(a);
-    }
-    if kind == 11 {
-        return Call::Status(a);
-    }
-    if kind == 12 {
-        return Call::Log(a, b);
-    }
-    if kind == 13 {
-        return Call::Clear;
-    }
-    if kind == 14 {
-        return Call::CommitCut(a, b, c);
-    }
-    if kind == 15 {
-        return Call::ClearCut(a);
-    }
-    if kind == 20 {
-        return Call::Release(a, c, b);
-    }
-    Call::Panel(a, b)
 }
 
 // ---- the records of the answers
@@ -143,38 +82,38 @@ fn decode(rec: &[u8]) -> Call
 // The record of what log tells, in zeros.
 fn put_log(rec: &mut [u8], entry: LogEntry)
     requires { rec.old ≡ zeros }
-    ensures { rec.new ≡ record_of (answer_of (Logged entry)) }
+    ensures { rec.new ≡ record_of (answer_of (Ok (Logged entry))) }
 {
-    let action = entry.action;
+    let source = entry.action.source();
     block::put32(rec, 4, entry.seat);
     block::put32(rec, 8, entry.stamp);
     block::put32(rec, 12, entry.changes);
-    block::put32(rec, 16, engine::action_number(action));
-    block::put32(rec, 20, engine::source_sheet(action));
-    block::put32(rec, 24, engine::source_revision(action));
+    block::put32(rec, 16, u32::from(entry.action));
+    block::put32(rec, 20, source.sheet);
+    block::put32(rec, 24, source.revision);
 }
 
 // The record of a status, in zeros.
 fn put_standing(rec: &mut [u8], standing: Standing)
     requires { rec.old ≡ zeros }
-    ensures { rec.new ≡ record_of (answer_of (Status standing)) }
+    ensures { rec.new ≡ record_of (answer_of (Ok (Status standing))) }
 {
     block::put32(rec, 4, standing.status);
     block::put32(rec, 8, standing.revision);
 }
 
 // The record of an answer, in zeros.
-fn put_answer(rec: &mut [u8], answer: Answer)
+fn put_answer(rec: &mut [u8], answer: Result<Answer, Refusal>)
     requires { rec.old ≡ zeros }
     ensures { rec.new ≡ record_of (answer_of answer) }
 {
     match answer {
-        Answer::Refused(k) => block::put32(rec, 0, engine::number(k)),
-        Answer::Done => {}
-        Answer::Revision(n) => block::put32(rec, 4, n),
-        Answer::Status(standing) => put_standing(rec, standing),
-        Answer::Logged(entry) => put_log(rec, entry),
-        Answer::Stopped => block::put32(rec, 8, 1),
+        Err(k) => block::put32(rec, 0, u32::from(k)),
+        Ok(Answer::Done) => {}
+        Ok(Answer::Revision(n)) => block::put32(rec, 4, n),
+        Ok(Answer::Status(standing)) => put_standing(rec, standing),
+        Ok(Answer::Logged(entry)) => put_log(rec, entry),
+        Ok(Answer::Stopped) => block::put32(rec, 8, 1),
     }
 }
 
@@ -189,22 +128,16 @@ fn put_part(rec: &mut [u8], bytes: &[u8], revision: u32)
 }
 
 // The record of the bytes at a place, or of the refusal, in zeros.
-fn put_place<'a>(rec: &mut [u8], store: &'a [u8], copy: &'a [u8], place: Place)
+fn put_place<'a>(rec: &mut [u8], store: &'a [u8], copy: &'a [u8], place: Result<Place, Refusal>)
     requires { (rec.old ≡ zeros) × Reachable store.now copy.now (At place) }
     ensures { rec.new ≡ record_of (told store.now copy.now (At place)) }
 {
     match place {
-        Place::Refused(k) => block::put32(rec, 0, engine::number(k)),
-        Place::InStore(p, revision) => {
-            let a = p.start;
-            let e = a + p.len;
-            put_part(rec, &store[a..e], revision);
+        Err(k) => block::put32(rec, 0, u32::from(k)),
+        Ok(Place::InStore(p, revision)) => {
+            put_part(rec, &store[p.start..p.start + p.len], revision);
         }
-        Place::InCopy(p) => {
-            let a = p.start;
-            let e = a + p.len;
-            put_part(rec, &copy[a..e], 0);
-        }
+        Ok(Place::InCopy(p)) => put_part(rec, &copy[p.start..p.start + p.len], 0),
     }
 }
 
@@ -244,127 +177,89 @@ fn turn(rec: &[u8], store: &mut [u8], copies: &mut [u8], h: Header, answer: &mut
     ensures { Turned rec.now store.old copies.old result store.new copies.new answer.new }
 {
     let seat = block::byte(rec, 1);
-    let k = seat as usize - 1;
-    let a = 16896 * k;
-    let e = a + 16896;
+    let a = 16896 * (seat as usize - 1);
     let v = View {
         n: store.len() / 512,
         used: h.used,
         last: h.last,
         seat: seat as u32,
     };
-    step(rec, store, &mut copies[a..e], v, answer)
+    step(rec, store, &mut copies[a..a + 16896], v, answer)
 }
 
 // Every call of the script in order.
-fn run_all(script: &[u8], store: &mut [u8], copies: &mut [u8], answers: &mut [u8], h: Header)
+fn run_all(script: &[u8], store: &mut [u8], copies: &mut [u8], answers: &mut [u8], mut h: Header)
     requires { Running script.now store.old copies.old answers.old h }
     ensures { desk store.new copies.new answers.new
         ≡ ran_from 0 (turns_of script.now) (desk store.old copies.old answers.old) }
 {
-    let n = script.len() / 512;
-    let mut last = h.last;
-    let mut used = h.used;
-    let mut i: usize = 0;
-    while i < n {
+    for i in 0..script.len() / 512 {
         let a = 512 * i;
-        let e = a + 512;
-        let g = turn(
-            &script[a..e],
+        h = turn(
+            &script[a..a + 512],
             store,
             copies,
-            Header { last, used },
-            &mut answers[a..e],
+            h,
+            &mut answers[a..a + 512],
         );
-        last = g.last;
-        used = g.used;
-        i += 1;
     }
 }
 
 // ---- the check
 
-// Nothing is wrong, or a refusal.
-#[derive(Clone, Copy)]
-enum Fault {
-    Free,
-    Is(Refusal),
-}
-
 // The refusal of the copy of a seat, where the store is open.
-fn copy_fault<'a>(store: &'a [u8], copy: &'a [u8], h: Header, seat: u32) -> Fault
-    requires { open_of store.now ≡ Open h }
+fn copy_fault<'a>(store: &'a [u8], copy: &'a [u8], h: Header, seat: u32) -> Result<(), Refusal>
+    requires { open_of store.now ≡ Ok h }
     ensures { fault_of result ≡ first_of (copy_lines store.now copy.now seat) }
 {
-    let c = entries::check_copy(store, copy, h);
-    match c {
-        Checked::Refused(k) => Fault::Is(k),
-        Checked::Ready(v) => {
-            if v.seat != seat {
-                return Fault::Is(Refusal::Range);
-            }
-            Fault::Free
-        }
+    let v = entries::check_copy(store, copy, h)?;
+    if v.seat != seat {
+        return Err(Refusal::Range);
     }
+    Ok(())
 }
 
 // The refusal of the four copies, where the store is open.
-fn copies_fault<'a>(store: &'a [u8], copies: &'a [u8], h: Header) -> Fault
-    requires { (open_of store.now ≡ Open h) × (length copies.now ≡ 67_584) }
+fn copies_fault<'a>(store: &'a [u8], copies: &'a [u8], h: Header) -> Result<(), Refusal>
+    requires { (open_of store.now ≡ Ok h) × (length copies.now ≡ 67_584) }
     ensures { fault_of result ≡ first_of (lines_from store.now copies.now 0 4) }
 {
-    let mut k: usize = 0;
-    while k < 4 {
-        let a = 16896 * k;
-        let e = a + 16896;
-        let f = copy_fault(store, &copies[a..e], h, k as u32 + 1);
-        match f {
-            Fault::Free => {}
-            Fault::Is(x) => return Fault::Is(x),
-        }
-        k += 1;
+    for (k, copy) in copies.chunks_exact(16896).enumerate() {
+        copy_fault(store, copy, h, k as u32 + 1)?;
     }
-    Fault::Free
+    Ok(())
 }
 
 // The first refusal, or the store's numbers.
-fn check<'a>(script: &'a [u8], store: &'a [u8], copies: &'a [u8], answers: &'a [u8]) -> Opened
+fn check<'a>(
+    script: &'a [u8],
+    store: &'a [u8],
+    copies: &'a [u8],
+    answers: &'a [u8],
+) -> Result<Header, Refusal>
     ensures { Checks script.now store.now copies.now answers.now result }
 {
-    let o = store::open(store);
-    match o {
-        Opened::Refused(k) => Opened::Refused(k),
-        Opened::Open(h) => {
-            if copies.len() != 67584 {
-                return Opened::Refused(Refusal::CopyLength);
-            }
-            let f = copies_fault(store, copies, h);
-            match f {
-                Fault::Is(k) => Opened::Refused(k),
-                Fault::Free => {
-                    if !script_ok(script) {
-                        return Opened::Refused(Refusal::Range);
-                    }
-                    if answers.len() < script.len() {
-                        return Opened::Refused(Refusal::Range);
-                    }
-                    Opened::Open(h)
-                }
-            }
-        }
+    let h = store::open(store)?;
+    if copies.len() != 67584 {
+        return Err(Refusal::CopyLength);
     }
+    copies_fault(store, copies, h)?;
+    if !script_ok(script) || answers.len() < script.len() {
+        return Err(Refusal::Range);
+    }
+    Ok(h)
 }
 
 // The calls of a script on a store and four copies side by side, and a record for each answer.
-pub fn replay(script: &[u8], store: &mut [u8], copies: &mut [u8], answers: &mut [u8]) -> Answer
+pub fn replay(
+    script: &[u8],
+    store: &mut [u8],
+    copies: &mut [u8],
+    answers: &mut [u8],
+) -> Result<Answer, Refusal>
     ensures { Replays script.now store.old copies.old answers.old result store.new copies.new answers.new }
 {
-    let c = check(script, store, copies, answers);
-    match c {
-        Opened::Refused(k) => Answer::Refused(k),
-        Opened::Open(h) => {
-            run_all(script, store, copies, answers, h);
-            Answer::Done
-        }
-    }
+    let h = check(script, store, copies, answers)?;
+    run_all(script, store, copies, answers, h);
+    Ok(Answer::Done)
 }

@@ -5,14 +5,14 @@ use mathlib.Core.Bool.{Bool, ◌&&◌, cond, true}
 use mathlib.Core.List.{List}
 use mathlib.Core.Path.{◌∙◌, ◌≡◌, ap, ap₂, refl, subst, sym}
 use native.Mathlib.Omega.{arith}
-use borrow.Author.Tests.{eq-eqb, le-ltb, ne_eqb}
+use borrow.Author.Tests.{le-ltb}
 use lib.Dec.{T, ltb}
 use lib.ListN.{drop, get_or, take}
 use lib.Seq.{drop-drop}
 use Rattle.block.proofs.Says.{and_true}
 use Rattle.block.specs.Field.{two_at}
 use Rattle.block.specs.Lists.{all, same}
-use Rattle.model.specs.Blocks.{Block, FitsBlock, Line, blank, fields_of, fits_block, parse, parse_line, parse_lines}
+use Rattle.model.specs.Blocks.{Block, FitsBlock, blank, fields_of, fits_block, parse, parse_lines}
 use Rattle.model.specs.Codec.{padded, parts, shaped}
 use Rattle.model.specs.Log.{marks, marks_ok}
 use Rattle.model.specs.Pass.{log_all, ok}
@@ -21,11 +21,9 @@ use Rattle.laws.proofs.BlockCodes.{block_coded}
 use Rattle.search.proofs.Halving.{passed_over}
 use Rattle.search.proofs.Revisions.{stating}
 use Rattle.search.specs.Find.{back, hit_in, in_block, nowhere}
-use Rattle.search.specs.declared.Found.{Found}
-use Rattle.shape.proofs.LineLaws.{block_of, left-all, left-none, left_step, sheet_of}
 use Rattle.shape.proofs.Shapes.{length-parse}
-use Rattle.shape.specs.Lines.{left}
 use Rattle.shape.specs.Shape.{kind_of}
+use Rattle.shape.specs.declared.BlockKind.TheVariants.{Commit}
 use Rattle.store.proofs.Blocks.{block_at, lent, lent_is}
 use Rattle.store.proofs.PassLaws.{commit_of, parse-commit}
 
@@ -38,7 +36,7 @@ all_part f (suc n) (suc p) s t h =
     (all_part f n p (drop 512 s) (and_true (f (take 512 s)) (all f (parts n (drop 512 s))) t).1 (omega arith))
 
 -- a commit block of an accepted store has at most 32 changes
-pub few-changes : (n p : ℕ) (s : List ℕ) → lawful n s ≡ true → p < n → kind_of (parse (lent s p)) ≡ 3 → two_at (lent s p) 2 ≤ 32
+pub few-changes : (n p : ℕ) (s : List ℕ) → lawful n s ≡ true → p < n → kind_of (parse (lent s p)) ≡ Commit → two_at (lent s p) 2 ≤ 32
 unfolding lawful shaped
 few-changes n p s e h k =
     let l = lent s p in
@@ -66,31 +64,17 @@ module _ (R n : ℕ) (s : List ℕ) (i p : ℕ) (some : 0 < p) (h : p ≤ n) whe
   into = back_step R (blocks_of n s) i p some ∙ ap (λ (b : Block). in_block R i b (back R (blocks_of n s) i (p - 1))) (block_at n (p - 1) s (omega arith))
 
   -- no commit, or one after R
-  pub back-skip : (kind_of (parse (lent s (p - 1))) ≡ 3 → R < two_at (lent s (p - 1)) 4) → back R (blocks_of n s) i p ≡ back R (blocks_of n s) i (p - 1)
+  pub back-skip : (kind_of (parse (lent s (p - 1))) ≡ Commit → R < two_at (lent s (p - 1)) 4) → back R (blocks_of n s) i p ≡ back R (blocks_of n s) i (p - 1)
   back-skip k =
       let l = lent s (p - 1) in
       into ∙ passed_over R i (parse l) (back R (blocks_of n s) i (p - 1)) (λ e. subst (λ (x : Block). R < stating x) (sym (parse-commit l e)) (k e))
 
-  pub back_into : (r m : ℕ) → kind_of (parse (lent s (p - 1))) ≡ 3 → r ≡ two_at (lent s (p - 1)) 4 → m ≡ two_at (lent s (p - 1)) 2 → r ≤ R
-      → back R (blocks_of n s) i p ≡ hit_in i r (left (lent s (p - 1)) 16 m 0) (back R (blocks_of n s) i (p - 1))
+  -- a commit up to R
+  pub back_into : (r m : ℕ) → kind_of (parse (lent s (p - 1))) ≡ Commit → r ≡ two_at (lent s (p - 1)) 4 → m ≡ two_at (lent s (p - 1)) 2 → r ≤ R
+      → back R (blocks_of n s) i p ≡ hit_in i r (parse_lines m (drop 16 (lent s (p - 1)))) (back R (blocks_of n s) i (p - 1))
   back_into r m k er em g =
       let l = lent s (p - 1) in
       into
       ∙ ap (λ (b : Block). in_block R i b (back R (blocks_of n s) i (p - 1))) (parse-commit l k)
       ∙ ap₂ (λ (x y : ℕ). cond (ltb R x) (back R (blocks_of n s) i (p - 1)) (hit_in i x (parse_lines y (drop 16 l)) (back R (blocks_of n s) i (p - 1)))) (sym er) (sym em)
       ∙ rw (le-ltb R r g) refl
-      ∙ ap (λ (x : List Line). hit_in i r x (back R (blocks_of n s) i (p - 1))) (sym (left-all l 16 m))
-
--- change by change
-module _ (l : List ℕ) (i r m j : ℕ) (older : Found) where
-  pub hit_none : m ≤ j → hit_in i r (left l 16 m j) older ≡ older
-  hit_none h = ap (λ (x : List Line). hit_in i r x older) (left-none l 16 m j h)
-
-  pub hit_here : (block : ℕ) → j < m → get_or l (16 + 8 * j) 0 ≡ i → block ≡ two_at l (16 + 8 * j + 2)
-      → hit_in i r (left l 16 m j) older ≡ record { block = block; revision = r }
-  hit_here block h e eb =
-      let b : (parse_line (drop (16 + 8 * j) l)).block ≡ block = block_of l (16 + 8 * j) ∙ sym eb in
-      rw (left_step l 16 m j h, eq-eqb (parse_line (drop (16 + 8 * j) l)).sheet i (sheet_of l (16 + 8 * j) ∙ e), b)
-
-  pub hit_next : j < m → (get_or l (16 + 8 * j) 0 ≡ i → ⊥) → hit_in i r (left l 16 m j) older ≡ hit_in i r (left l 16 m (j + 1)) older
-  hit_next h e = rw (left_step l 16 m j h, ne_eqb (parse_line (drop (16 + 8 * j) l)).sheet i (λ q. e (sym (sheet_of l (16 + 8 * j)) ∙ q)))

@@ -1,6 +1,7 @@
 -- What is found in an accepted store: the search back finds the block that the tree's table has and the last commit that names the sheet; that block is 0 exactly
 -- where the tree lacks the sheet, else it holds the sheet's bytes, and it is a used block.
 -- Assumes nothing.
+use Rattle.std.specs.Prelude.{Ok}
 use Prim.Native.Nat.{◌*◌, ◌+◌, ◌<◌, ◌≤◌, ℕ}
 use mathlib.Core.Bool.{false}
 use mathlib.Core.List.{List, [], ◌++◌, ◌∷◌, map}
@@ -35,7 +36,6 @@ use Rattle.store.proofs.Blocks.{bytes_in_lem}
 use Rattle.store.proofs.Opening.{open_accepted}
 use Rattle.store.specs.Opened.{open_of}
 use Rattle.store.specs.declared.Header.{Header}
-use Rattle.store.specs.declared.Opened.TheVariants.{Open}
 
 absent : (o : Option Bytes) → (o ≡ none) ↔ (present o ≡ false)
 absent none = ((λ e. refl), (λ e. refl))
@@ -62,7 +62,7 @@ abbrev span_as : ℕ → ℕ → Span
 span_as a k = record { start = a; len = k }
 
 -- a store that is open is accepted
-pub open_asked : (s : Bytes) (h : Header) → open_of s ≡ Open h → Accepted s (block_count s) h.used
+pub open_asked : (s : Bytes) (h : Header) → open_of s ≡ Ok h → Accepted s (block_count s) h.used
 open_asked s h e = let w = open_accepted s h e in record { clear = w.0; count = refl; in_use = w.2 }
 
 module _ (s : Bytes) (n used : ℕ) (A : Accepted s n used) where

@@ -16,6 +16,7 @@ use Rattle.search.proofs.Revisions.{Passed, after-label, count_more, era_end, er
 use Rattle.search.specs.Find.{Accepted, Bound, back, era_at, hit_in, in_block, nowhere}
 use Rattle.search.specs.declared.Found.{Found}
 use Rattle.shape.specs.Shape.{kind_of}
+use Rattle.shape.specs.declared.BlockKind.TheVariants.{Commit, Mark}
 use Rattle.store.proofs.Blocks.{block_at, lent}
 
 -- ---- the way back over all commits
@@ -32,7 +33,7 @@ back_all bs i zero = nowhere
 back_all bs i (suc b) = in_any i (get_or bs b blank) (back_all bs i b)
 
 -- what is no commit up to R is passed over
-pub passed_over : (R i : ℕ) (b : Block) (older : Found) → (kind_of b ≡ 3 → R < stating b) → in_block R i b older ≡ older
+pub passed_over : (R i : ℕ) (b : Block) (older : Found) → (kind_of b ≡ Commit → R < stating b) → in_block R i b older ≡ older
 passed_over R i label older h = refl
 passed_over R i (content r b) older h = refl
 passed_over R i (commit r s t ls) older h = rw (lt-ltb R r (h refl)) refl
@@ -40,7 +41,7 @@ passed_over R i (mark m) older h = refl
 passed_over R i blank older h = refl
 
 -- the others are looked at
-looked_at : (R i : ℕ) (b : Block) (older : Found) → (kind_of b ≡ 3 → stating b ≤ R) → in_block R i b older ≡ in_any i b older
+looked_at : (R i : ℕ) (b : Block) (older : Found) → (kind_of b ≡ Commit → stating b ≤ R) → in_block R i b older ≡ in_any i b older
 looked_at R i label older h = refl
 looked_at R i (content r b) older h = refl
 looked_at R i (commit r s t ls) older h = rw (le-ltb R r (h refl)) refl
@@ -74,7 +75,7 @@ module _ (s : Bytes) (n used : ℕ) (A : Accepted s n used) (r : ℕ) where
     d : p - 1 + 1 ≡ p
     d = omega arith
 
-    pub behind-mark : kind_of (parse (lent s (p - 1))) ≡ 4 → r < era_at bs (p - 1)
+    pub behind-mark : kind_of (parse (lent s (p - 1))) ≡ Mark → r < era_at bs (p - 1)
     behind-mark k =
         let e = era_mark bs (p - 1) (ap kind_of (block_at used (p - 1) s (omega arith)) ∙ k) in
         omega (arith, e, ap (era_at bs) d)
@@ -88,7 +89,7 @@ module _ (s : Bytes) (n used : ℕ) (A : Accepted s n used) (r : ℕ) where
           after = λ q x y. omega (arith, era_more bs p q x);
         }
 
-    pub bound_here : (v : ℕ) → (kind_of (parse (lent s (p - 1))) ≡ 4 → ⊥) → v ≡ two_at (lent s (p - 1)) 4 → v ≤ r → Bound bs used r p
+    pub bound_here : (v : ℕ) → (kind_of (parse (lent s (p - 1))) ≡ Mark → ⊥) → v ≡ two_at (lent s (p - 1)) 4 → v ≤ r → Bound bs used r p
     bound_here v k e m = bound_at (omega (arith, rev_at s used used P (p - 1) (omega arith) (omega arith) k))
 
   pub bound-first : r < era_at bs 1 → Bound bs used r 1
@@ -105,8 +106,8 @@ module _ (s : Bytes) (n used : ℕ) (A : Accepted s n used) (r : ℕ) where
         | inr o ↦ (let e : suc (suc p) - 1 ≡ suc p = omega arith in (suc (suc p), bound_at (suc (suc p)) (omega arith) g l (omega (arith, ap (era_at bs) e)), omega arith))
       ]
 
-  commit_era : (p : ℕ) → p < used → kind_of (get_or bs p blank) ≡ 3 → (1 ≤ p) × (stating (get_or bs p blank) ≡ era_at bs p)
-  commit_era p g k = let h = after-label s used used P p k in (h, (era_stated s used used P p h g).1 (λ e. absurd (omega (arith, k, e))))
+  commit_era : (p : ℕ) → p < used → kind_of (get_or bs p blank) ≡ Commit → (1 ≤ p) × (stating (get_or bs p blank) ≡ era_at bs p)
+  commit_era p g k = let h = after-label s used used P p k in (h, (era_stated s used used P p h g).1 (λ e. cc))
 
   module _ (i b : ℕ) (G : Bound bs used r b) where
     back_over : (k : ℕ) → b + k ≤ used → back r bs i (b + k) ≡ back r bs i b

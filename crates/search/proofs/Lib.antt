@@ -1,6 +1,7 @@
 -- Laws that belong to no one function.
 pub mod Revisions
 pub mod Halving
+pub mod Named
 pub mod BackLaws
 pub mod Sought
 pub mod Naming

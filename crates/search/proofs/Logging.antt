@@ -1,6 +1,7 @@
 -- The block before the bound of revision r is commit r's commit block, and what it says is what log answers.
 -- Assumes nothing.
-use Prim.Native.Nat.{◌*◌, ◌+◌, ◌-◌, ◌<◌, ◌≤◌, suc, zero, ℕ}
+use Rattle.std.specs.Prelude.{Ok}
+use Prim.Native.Nat.{◌+◌, ◌-◌, ◌<◌, ◌≤◌, suc, zero, ℕ}
 use mathlib.Core.Bool.{◌&&◌}
 use mathlib.Core.List.{List, [], ◌∷◌}
 use mathlib.Core.Path.{◌∙◌, ◌≡◌, ap, refl, subst, sym}
@@ -30,6 +31,7 @@ use Rattle.search.specs.Deed.{deed_in}
 use Rattle.search.specs.Find.{Accepted, Bound, count, era_at}
 use Rattle.shape.proofs.Shapes.{length-parse}
 use Rattle.shape.specs.Shape.{kind_of}
+use Rattle.shape.specs.declared.BlockKind.TheVariants.{Commit as CommitKind}
 use Rattle.store.proofs.Blocks.{block_at, lent, part_size}
 use Rattle.store.proofs.PassLaws.{commit_of, parse-commit}
 
@@ -100,9 +102,6 @@ module _ (s : Bytes) (n used : ℕ) (A : Accepted s n used) (r b : ℕ) (G : Bou
   before_in : b - 1 < used
   before_in = omega (arith, far, G.high, used_high s used used P)
 
-  pub before_part : (b - 1 < 4_096) × ((b - 1) * 512 + 512 ≤ length s)
-  before_part = (omega (arith, before_in, P.few), omega (arith, before_in, P.whole))
-
   -- r − 1 commits stand before it
   just : count (take (b - 2) rest) ≡ r - 1
   just =
@@ -131,7 +130,7 @@ module _ (s : Bytes) (n used : ℕ) (A : Accepted s n used) (r b : ℕ) (G : Bou
       ∙ ap (λ (x : ℕ). get_or (label ∷ rest) x blank) (sym e)
       ∙ there.is
 
-  before-commit : kind_of (parse bytes) ≡ 3
+  before-commit : kind_of (parse bytes) ≡ CommitKind
   before-commit = ap kind_of parsed
 
   pub before-few : two_at bytes 2 ≤ 32
@@ -153,7 +152,7 @@ module _ (s : Bytes) (n used : ℕ) (A : Accepted s n used) (r b : ℕ) (G : Bou
 
   -- THE STATEMENT: what stands in the block is what log answers
   pub log_is : (i : ℕ) → i < 32 → (x : LogEntry) → x.seat ≡ get_or bytes 6 0 → x.stamp ≡ four_at bytes 8 → x.changes ≡ two_at bytes 2
-      → x.action ≡ deed_in i (parse_lines (two_at bytes 2) (drop 16 bytes)) → answer_of (Logged x) ≡ (doing (store_side s) (Log r i)).0
+      → x.action ≡ deed_in i (parse_lines (two_at bytes 2) (drop 16 bytes)) → answer_of (Ok (Logged x)) ≡ (doing (store_side s) (Log r i)).0
   unfolding stated
   log_is i h x es et em ea =
       let q : get_or bytes 6 0 ≡ there.seat = cc fields in
@@ -162,5 +161,5 @@ module _ (s : Bytes) (n used : ℕ) (A : Accepted s n used) (r b : ℕ) (G : Bou
       let d = does-lines look i h there.lines in
       let a : x.action ≡ deed_in i there.lines = ea ∙ ap (deed_in i) l in
       let m : x.changes ≡ total counts (puts (means look) there.lines no_changes) = em ∙ sym (length-parse (two_at bytes 2) (drop 16 bytes)) ∙ ap length l ∙ sym there.many in
-      let y : answer_of (Logged x) ≡ log_of (stated look there.seat there.stamp there.lines) i = rw (es ∙ q, et ∙ t, m, a, d.action, d.sheet, d.revision) in
+      let y : answer_of (Ok (Logged x)) ≡ log_of (stated look there.seat there.stamp there.lines) i = rw (es ∙ q, et ∙ t, m, a, d.action, d.sheet, d.revision) in
       y ∙ sym (ap (λ (c : Commit). log_of c i) its_commit)

@@ -21,10 +21,11 @@ use Rattle.laws.proofs.Acceptance.{no_change, places}
 use Rattle.laws.proofs.Puts.{length-puts}
 use Rattle.laws.proofs.Trees.{namer-append}
 use Rattle.search.proofs.Halving.{back_all, in_any}
-use Rattle.search.proofs.Revisions.{Passed, after-mark, counted, first_read, kinds, ok_all, opened, states, stating, used-few, used_is, used_in}
+use Rattle.search.proofs.Revisions.{Passed, after-mark, counted, first_read, Stated, kinds, ok_all, opened, states, stating, used-few, used_is, used_in}
 use Rattle.search.specs.Find.{Bound, count, hit_in}
 use Rattle.search.specs.declared.Found.{Found}
 use Rattle.shape.specs.Shape.{kind_of}
+use Rattle.shape.specs.declared.BlockKind.TheVariants.{Mark as MarkKind}
 
 -- ---- a commit
 
@@ -65,7 +66,7 @@ stated-names look i h (l ∷ ls) =
 -- ---- blocks in use
 
 abbrev Solid : List Block → Type 0
-Solid xs = All (λ (x : Block). 2 ≤ kind_of x) xs
+Solid xs = All Stated xs
 
 solid_take : (look : ℕ → List ℕ) (at k : ℕ) (tables : List Table) (bs : List Block) → T (ok_from look at k tables bs) → (b : ℕ) → b ≤ used_in bs → Solid (take b bs)
 unfolding ok_from
@@ -74,56 +75,56 @@ solid_take look at k tables [] t (suc b) h = absurd (omega arith)
 solid_take look at k tables (label ∷ bs) t (suc b) h = absurd t
 solid_take look at k tables (blank ∷ bs) t (suc b) h = absurd (omega arith)
 solid_take look at k tables (content r x ∷ bs) t (suc b) h =
-    (omega arith, solid_take look at (suc k) tables bs (and_true (eqb r (length tables)) (ok_from look at (suc k) tables bs) t).1 b (omega arith))
+    (tt, solid_take look at (suc k) tables bs (and_true (eqb r (length tables)) (ok_from look at (suc k) tables bs) t).1 b (omega arith))
 solid_take look at k tables (commit r s q ls ∷ bs) t (suc b) h =
     let u = (and_true (eqb r (length tables)) (laid look at k tables s ls && ok_from look (suc (at + k)) 0 (grown tables ls) bs) t).1 in
-    (omega arith, solid_take look (suc (at + k)) 0 (grown tables ls) bs (and_true (laid look at k tables s ls) (ok_from look (suc (at + k)) 0 (grown tables ls) bs) u).1 b (omega arith))
-solid_take look at k tables (mark m ∷ bs) t (suc b) h = (omega arith, solid_take look (suc at) 0 tables bs (after-mark look at k tables m bs t) b (omega arith))
+    (tt, solid_take look (suc (at + k)) 0 (grown tables ls) bs (and_true (laid look at k tables s ls) (ok_from look (suc (at + k)) 0 (grown tables ls) bs) u).1 b (omega arith))
+solid_take look at k tables (mark m ∷ bs) t (suc b) h = (tt, solid_take look (suc at) 0 tables bs (after-mark look at k tables m bs t) b (omega arith))
 
 read_snoc : (look : ℕ → List ℕ) (xs : List Block) (x : Block) → Solid xs → read_from look (xs ++ (x ∷ [])) ≡ read_from look xs ++ read_from look (x ∷ [])
 unfolding read_from
 read_snoc look [] x a = refl
-read_snoc look (label ∷ xs) x a = absurd (omega (arith, a.0))
+read_snoc look (label ∷ xs) x a = absurd a.0
 read_snoc look (content r b ∷ xs) x a = read_snoc look xs x a.1
 read_snoc look (commit r s q ls ∷ xs) x a = ap {B = History} (λ y. stated look s q ls ∷ y) (read_snoc look xs x a.1)
 read_snoc look (mark m ∷ xs) x a = read_snoc look xs x a.1
-read_snoc look (blank ∷ xs) x a = absurd (omega (arith, a.0))
+read_snoc look (blank ∷ xs) x a = absurd a.0
 
 read_count : (look : ℕ → List ℕ) (xs : List Block) → Solid xs → length (read_from look xs) ≡ count xs
 unfolding read_from
 read_count look [] a = refl
-read_count look (label ∷ xs) a = absurd (omega (arith, a.0))
+read_count look (label ∷ xs) a = absurd a.0
 read_count look (content r b ∷ xs) a = read_count look xs a.1
 read_count look (commit r s q ls ∷ xs) a = ap suc (read_count look xs a.1)
 read_count look (mark m ∷ xs) a = read_count look xs a.1
-read_count look (blank ∷ xs) a = absurd (omega (arith, a.0))
+read_count look (blank ∷ xs) a = absurd a.0
 
 read_take : (look : ℕ → List ℕ) (bs : List Block) (q : ℕ) → Solid (take q bs) → read_from look (take q bs) ≡ take (count (take q bs)) (read_from look bs)
 unfolding read_from
 read_take look bs zero a = refl
 read_take look [] (suc q) a = refl
-read_take look (label ∷ bs) (suc q) a = absurd (omega (arith, a.0))
+read_take look (label ∷ bs) (suc q) a = absurd a.0
 read_take look (content r b ∷ bs) (suc q) a = read_take look bs q a.1
 read_take look (commit r s t ls ∷ bs) (suc q) a = ap {B = History} (λ y. stated look s t ls ∷ y) (read_take look bs q a.1)
 read_take look (mark m ∷ bs) (suc q) a = read_take look bs q a.1
-read_take look (blank ∷ bs) (suc q) a = absurd (omega (arith, a.0))
+read_take look (blank ∷ bs) (suc q) a = absurd a.0
 
 -- one block more
-one_more : (look : ℕ → List ℕ) (i : ℕ) → i < 32 → (xs : List Block) (x : Block) (older : Found) → Solid xs → 2 ≤ kind_of x
-    → ((kind_of x ≡ 4 → ⊥) → stating x ≡ 1 + count xs)
+one_more : (look : ℕ → List ℕ) (i : ℕ) → i < 32 → (xs : List Block) (x : Block) (older : Found) → Solid xs → Stated x
+    → ((kind_of x ≡ MarkKind → ⊥) → stating x ≡ 1 + count xs)
     → older.revision ≡ namer_from 0 0 (read_from look xs) i → (in_any i x older).revision ≡ namer_from 0 0 (read_from look (xs ++ (x ∷ []))) i
 unfolding read_from stated
-one_more look i h xs label older a k e w = absurd (omega arith)
+one_more look i h xs label older a k e w = absurd k
 one_more look i h xs (content r b) older a k e w = w ∙ ap (λ (y : History). namer_from 0 0 y i) (sym (read_snoc look xs (content r b) a ∙ append-nil (read_from look xs)))
 one_more look i h xs (commit r s q ls) older a k e w =
     let c = stated look s q ls in
-    let n : r ≡ suc (0 + length (read_from look xs)) = omega (arith, read_count look xs a, e (λ z. absurd (omega arith))) in
+    let n : r ≡ suc (0 + length (read_from look xs)) = omega (arith, read_count look xs a, e (λ z. cc)) in
     hit_revision i r ls older
     ∙ ap₂ (λ (x y : ℕ). cond (any_names i ls) x y) n w
     ∙ ap (λ (t : Bool). cond t (suc (0 + length (read_from look xs))) (namer_from 0 0 (read_from look xs) i)) (sym (stated-names look i h ls))
     ∙ sym (ap (λ (y : History). namer_from 0 0 y i) (read_snoc look xs (commit r s q ls) a) ∙ namer-append 0 0 (read_from look xs) (stated look s q ls ∷ []) i)
 one_more look i h xs (mark m) older a k e w = w ∙ ap (λ (y : History). namer_from 0 0 y i) (sym (read_snoc look xs (mark m) a ∙ append-nil (read_from look xs)))
-one_more look i h xs blank older a k e w = absurd (omega arith)
+one_more look i h xs blank older a k e w = absurd k
 
 back-names : (look : ℕ → List ℕ) (bs : List Block) → T (ok_from look 1 0 (replicate 32 0 ∷ []) bs) → (i : ℕ) → i < 32 → (b : ℕ) → b ≤ used_in bs
     → (back_all (label ∷ bs) i (suc b)).revision ≡ namer_from 0 0 (read_from look (take b bs)) i

@@ -25,8 +25,10 @@ use Rattle.laws.proofs.Tables.{trail}
 use Rattle.laws.proofs.Used.{own-history, own-lawful, own_room, own_tables, own-used}
 use Rattle.search.specs.Find.{Accepted, Bound, count, era_at}
 use Rattle.shape.specs.Shape.{kind_of}
+use Rattle.shape.specs.declared.BlockKind.{BlockKind}
+use Rattle.shape.specs.declared.BlockKind.TheVariants.{Blank, Commit as CommitKind, Content, Label, Mark as MarkKind}
 use Rattle.store.proofs.Blocks.{block_at, length-blocks, lent}
-use Rattle.store.proofs.PassLaws.{parse-commit, parse-content, parse-low, parse-mark}
+use Rattle.store.proofs.PassLaws.{block_of, parse_kind}
 
 -- how many blocks are used
 abbrev pub used_in : List Block → ℕ
@@ -111,17 +113,17 @@ count-one bs p = subst (λ (x : ℕ). count (take x bs) ≤ count (take p bs) + 
     one blank = omega arith
 
 -- a mark ends no era
-pub era_mark : (bs : List Block) (p : ℕ) → kind_of (get_or bs p blank) ≡ 4 → era_at bs (p + 1) ≡ era_at bs p
+pub era_mark : (bs : List Block) (p : ℕ) → kind_of (get_or bs p blank) ≡ MarkKind → era_at bs (p + 1) ≡ era_at bs p
 era_mark bs p e =
     let w : count (take (p + 1) bs) ≡ count (take (suc p) bs) = ap (λ (x : ℕ). count (take x bs)) (add-one p) in
     omega (arith, w, count_next bs p, none (get_or bs p blank) e)
   where
-    none : (b : Block) → kind_of b ≡ 4 → count (b ∷ []) ≡ 0
-    none label h = absurd (omega arith)
-    none (content r b) h = absurd (omega arith)
-    none (commit r s t ls) h = absurd (omega arith)
+    none : (b : Block) → kind_of b ≡ MarkKind → count (b ∷ []) ≡ 0
+    none label h = refl
+    none (content r b) h = refl
+    none (commit r s t ls) h = cc
     none (mark m) h = refl
-    none blank h = absurd (omega arith)
+    none blank h = refl
 
 -- what follows a mark is laid out too
 pub after-mark : (look : ℕ → List ℕ) (at k : ℕ) (tables : List Table) (m : Mark) (bs : List Block) → T (ok_from look at k tables (mark m ∷ bs)) → T (ok_from look (suc at) 0 tables bs)
@@ -131,7 +133,7 @@ after-mark look at k tables m bs t =
 
 -- a content or a commit block states one more than the commits before it, and a mark no more than that
 pub states : (look : ℕ → List ℕ) (at k : ℕ) (tables : List Table) (bs : List Block) → T (ok_from look at k tables bs) → (p : ℕ) → p < used_in bs
-    → (stating (get_or bs p blank) ≤ length tables + count (take p bs)) × ((kind_of (get_or bs p blank) ≡ 4 → ⊥) → stating (get_or bs p blank) ≡ length tables + count (take p bs))
+    → (stating (get_or bs p blank) ≤ length tables + count (take p bs)) × ((kind_of (get_or bs p blank) ≡ MarkKind → ⊥) → stating (get_or bs p blank) ≡ length tables + count (take p bs))
 unfolding ok_from
 states look at k tables [] t p h = absurd (omega arith)
 states look at k tables (label ∷ bs) t p h = absurd t
@@ -207,31 +209,39 @@ used-few (commit r s q ls ∷ bs) = let i = used-few bs in omega arith
 used-few (mark m ∷ bs) = let i = used-few bs in omega arith
 used-few (blank ∷ bs) = omega arith
 
--- a block in use after the label is a content or a commit block or a mark
-pub kinds : (look : ℕ → List ℕ) (at k : ℕ) (tables : List Table) (bs : List Block) → T (ok_from look at k tables bs) → (p : ℕ) → p < used_in bs → 2 ≤ kind_of (get_or bs p blank)
+-- a content or a commit block or a mark
+abbrev pub Stated : Block → Type 0
+Stated label = ⊥
+Stated (content r b) = Unit {0}
+Stated (commit r s t ls) = Unit {0}
+Stated (mark m) = Unit {0}
+Stated blank = ⊥
+
+-- a block in use after the label
+pub kinds : (look : ℕ → List ℕ) (at k : ℕ) (tables : List Table) (bs : List Block) → T (ok_from look at k tables bs) → (p : ℕ) → p < used_in bs → Stated (get_or bs p blank)
 unfolding ok_from
 kinds look at k tables [] t p h = absurd (omega arith)
 kinds look at k tables (label ∷ bs) t p h = absurd t
 kinds look at k tables (blank ∷ bs) t p h = absurd (omega arith)
-kinds look at k tables (content r b ∷ bs) t zero h = omega arith
+kinds look at k tables (content r b ∷ bs) t zero h = tt
 kinds look at k tables (content r b ∷ bs) t (suc p) h =
     kinds look at (suc k) tables bs (and_true (eqb r (length tables)) (ok_from look at (suc k) tables bs) t).1 p (omega arith)
-kinds look at k tables (commit r s q ls ∷ bs) t zero h = omega arith
+kinds look at k tables (commit r s q ls ∷ bs) t zero h = tt
 kinds look at k tables (commit r s q ls ∷ bs) t (suc p) h =
     let u = (and_true (eqb r (length tables)) (laid look at k tables s ls && ok_from look (suc (at + k)) 0 (grown tables ls) bs) t).1 in
     kinds look (suc (at + k)) 0 (grown tables ls) bs (and_true (laid look at k tables s ls) (ok_from look (suc (at + k)) 0 (grown tables ls) bs) u).1 p (omega arith)
-kinds look at k tables (mark m ∷ bs) t zero h = omega arith
+kinds look at k tables (mark m ∷ bs) t zero h = tt
 kinds look at k tables (mark m ∷ bs) t (suc p) h = kinds look (suc at) 0 tables bs (after-mark look at k tables m bs t) p (omega arith)
 
-stating_two : (l : List ℕ) → 2 ≤ kind_of (parse l) → stating (parse l) ≡ two_at l 4
-stating_two l h =
-    elim (eq_or (kind_of (parse l)) 2) [
-      | inl e ↦ ap stating (parse-content l e)
-      | inr o ↦ elim (eq_or (kind_of (parse l)) 3) [
-        | inl e ↦ ap stating (parse-commit l e)
-        | inr q ↦ ap stating (parse-mark l (omega (arith, parse-low l, o, q)))
-      ]
-    ]
+stating_kind : (l : List ℕ) (k : BlockKind) → Stated (block_of l k) → stating (block_of l k) ≡ two_at l 4
+stating_kind l Label h = absurd h
+stating_kind l Content h = refl
+stating_kind l CommitKind h = refl
+stating_kind l MarkKind h = refl
+stating_kind l Blank h = absurd h
+
+stating_two : (l : List ℕ) → Stated (parse l) → stating (parse l) ≡ two_at l 4
+stating_two l h = ap stating (parse_kind l) ∙ stating_kind l (kind_of (parse l)) (subst Stated (parse_kind l) h)
 
 module _ (s : List ℕ) (n used : ℕ) (A : Passed s n used) where
   pub ok_all : T (ok (blocks_of n s))
@@ -254,8 +264,8 @@ module _ (s : List ℕ) (n used : ℕ) (A : Passed s n used) where
   used_high = omega (arith, A.in_use, used-few (blocks_of n s), length-blocks n s)
 
   -- no commit block stands in the label's place
-  pub after-label : (p : ℕ) → kind_of (get_or (blocks_of n s) p blank) ≡ 3 → 1 ≤ p
-  after-label zero e = absurd (let l = ap (λ (x : List Block). kind_of (get_or x 0 blank)) whole in omega (arith, l, e))
+  pub after-label : (p : ℕ) → kind_of (get_or (blocks_of n s) p blank) ≡ CommitKind → 1 ≤ p
+  after-label zero e = absurd (let l = ap (λ (x : List Block). kind_of (get_or x 0 blank)) whole in cc (l, e))
   after-label (suc p) e = omega arith
 
   -- the era of block p
@@ -270,7 +280,7 @@ module _ (s : List ℕ) (n used : ℕ) (A : Passed s n used) where
 
   -- what block p states: its era, and a mark no later one
   pub era_stated : (p : ℕ) → 1 ≤ p → p < used
-      → (stating (get_or (blocks_of n s) p blank) ≤ era_at (blocks_of n s) p) × ((kind_of (get_or (blocks_of n s) p blank) ≡ 4 → ⊥) → stating (get_or (blocks_of n s) p blank) ≡ era_at (blocks_of n s) p)
+      → (stating (get_or (blocks_of n s) p blank) ≤ era_at (blocks_of n s) p) × ((kind_of (get_or (blocks_of n s) p blank) ≡ MarkKind → ⊥) → stating (get_or (blocks_of n s) p blank) ≡ era_at (blocks_of n s) p)
   era_stated zero h g = absurd (omega arith)
   era_stated (suc p) h g =
       let b = block-rest p in
@@ -278,10 +288,10 @@ module _ (s : List ℕ) (n used : ℕ) (A : Passed s n used) where
       let w = states (bytes_at (blocks_of n s)) 1 0 (replicate 32 0 ∷ []) rest (opened (blocks_of n s) ok_all).2 p (omega (arith, used_is)) in
       (omega (arith, ap stating b, e, w.0), (λ d. ap stating b ∙ w.1 (λ x. d (ap kind_of b ∙ x)) ∙ sym e))
 
-  used-kind : (p : ℕ) → 1 ≤ p → p < used → 2 ≤ kind_of (get_or (blocks_of n s) p blank)
+  used-kind : (p : ℕ) → 1 ≤ p → p < used → Stated (get_or (blocks_of n s) p blank)
   used-kind zero h g = absurd (omega arith)
   used-kind (suc p) h g =
-      subst (λ (x : Block). 2 ≤ kind_of x) (sym (block-rest p))
+      subst Stated (sym (block-rest p))
       (kinds (bytes_at (blocks_of n s)) 1 0 (replicate 32 0 ∷ []) rest (opened (blocks_of n s) ok_all).2 p (omega (arith, used_is)))
 
   -- the same by its bytes
@@ -290,9 +300,9 @@ module _ (s : List ℕ) (n used : ℕ) (A : Passed s n used) where
     lent_is_block = sym (block_at n p s (omega (arith, used_high)))
 
     stated_at : two_at (lent s p) 4 ≡ stating (get_or (blocks_of n s) p blank)
-    stated_at = sym (stating_two (lent s p) (subst (λ (x : Block). 2 ≤ kind_of x) (sym lent_is_block) (used-kind p h g))) ∙ ap stating lent_is_block
+    stated_at = sym (stating_two (lent s p) (subst Stated (sym lent_is_block) (used-kind p h g))) ∙ ap stating lent_is_block
 
-    pub rev_at : (kind_of (parse (lent s p)) ≡ 4 → ⊥) → two_at (lent s p) 4 ≡ era_at (blocks_of n s) p
+    pub rev_at : (kind_of (parse (lent s p)) ≡ MarkKind → ⊥) → two_at (lent s p) 4 ≡ era_at (blocks_of n s) p
     rev_at d = stated_at ∙ (era_stated p h g).1 (λ e. d (ap kind_of lent_is_block ∙ e))
 
     pub rev_low : two_at (lent s p) 4 ≤ era_at (blocks_of n s) p

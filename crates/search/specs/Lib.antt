@@ -1,3 +1,4 @@
 -- The definitions that the contracts of `search` cite.
 pub mod Find
 pub mod Deed
+pub mod Change

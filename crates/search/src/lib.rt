@@ -9,10 +9,12 @@ ghost use Rattle.model.specs.Machine.{Log, doing};
 ghost use Rattle.model.specs.Store.{block_count, blocks_of, store_history};
 ghost use Rattle.model.specs.Types.{answer_of};
 ghost use Rattle.model.specs.declared.Answer.TheVariants.{Logged};
+ghost use Rattle.search.specs.Change.{NamedAt};
 ghost use Rattle.search.specs.Deed.{deed_in, deed_of};
 ghost use Rattle.search.specs.Find.{Accepted, Bound, Spanned, back, era_at, found_in};
 
 use model::{Action, LogEntry, Source, Span};
+use shape::BlockKind;
 
 // What the last commit that names a sheet says of it: the block that the sheet uses since, 0 for a delete, and the commit's revision. Both are 0 where none names it.
 #[derive(Clone, Copy)]
@@ -32,35 +34,44 @@ fn halved(store: &[u8], n: usize, used: usize, r: usize) -> usize
     while lo < hi {
         let mid = (lo + hi) / 2;
         let a = mid * 512;
-        let e = a + 512;
-        if shape::two_at(&store[a..e], 4) as usize <= r {
+        if shape::two_at(&store[a..a + 512], 4) as usize <= r {
             lo = mid + 1;
-            continue;
+        } else {
+            hi = mid;
         }
-        hi = mid;
     }
     lo
 }
 
 // The first block after commit r, or after the label where r is 0. A mark that stands later and states r or less can draw the halving behind it: then the way back is longer.
+// The blocks before it stand in the store.
 fn bound(store: &[u8], n: usize, used: usize, r: usize) -> usize
     requires { Accepted store.now n used × (r ≤ last (store_history store.now)) }
-    ensures { Bound (blocks_of used store.now) used r result }
+    ensures bound { Bound (blocks_of used store.now) used r result }
+    ensures room { (result ≤ 4096) × (result * 512 ≤ length store.now) }
 {
-    let mut p = halved(store, n, used, r);
-    while 1 < p {
-        let q = p - 1;
-        let a = q * 512;
-        let e = a + 512;
-        let b = &store[a..e];
-        if shape::kind(b) != 4 {
-            if shape::two_at(b, 4) as usize <= r {
-                return p;
-            }
+    for p in (1..halved(store, n, used, r)).rev() {
+        let a = p * 512;
+        let b = &store[a..a + 512];
+        if shape::kind(b) != BlockKind::Mark && shape::two_at(b, 4) as usize <= r {
+            return p + 1;
         }
-        p = q;
     }
-    p
+    1
+}
+
+// Where the first of a commit block's m changes that names sheet i starts.
+fn change_of(b: &[u8], m: usize, i: usize) -> Option<usize>
+    requires { (length b.now ≡ 512) × (m ≤ 32) }
+    ensures { NamedAt i m b.now result }
+{
+    for j in 0..m {
+        let o = 16 + 8 * j;
+        if b[o] as usize == i {
+            return Some(o);
+        }
+    }
+    None
 }
 
 // The newest change of sheet i in the commits up to r before block `end`.
@@ -72,13 +83,10 @@ fn find(store: &[u8], n: usize, used: usize, end: usize, r: usize, i: usize) -> 
         block: 0,
         revision: 0,
     };
-    let mut p = end;
-    'search: while 0 < p {
-        p -= 1;
+    'search: for p in (0..end).rev() {
         let a = p * 512;
-        let e = a + 512;
-        let b = &store[a..e];
-        if shape::kind(b) != 3 {
+        let b = &store[a..a + 512];
+        if shape::kind(b) != BlockKind::Commit {
             continue;
         }
         let revision = shape::two_at(b, 4);
@@ -86,15 +94,13 @@ fn find(store: &[u8], n: usize, used: usize, end: usize, r: usize, i: usize) -> 
             continue;
         }
         let m = shape::two_at(b, 2) as usize;
-        let mut j: usize = 0;
-        'changes: while j < m {
+        'changes: for j in 0..m {
             let o = 16 + 8 * j;
             if b[o] as usize == i {
                 let block = shape::two_at(b, o + 2) as usize;
                 found = Found { block, revision };
                 break 'search;
             }
-            j += 1;
         }
     }
     found
@@ -115,8 +121,7 @@ pub fn span_at(store: &[u8], p: usize) -> Span
     ensures { Spanned store.now p result }
 {
     let a = p * 512;
-    let e = a + 512;
-    let len = shape::size(&store[a..e]);
+    let len = shape::size(&store[a..a + 512]);
     Span { start: a + 16, len }
 }
 
@@ -125,19 +130,15 @@ fn deed_at(b: &[u8], o: usize) -> Action
     requires { o + 8 ≤ length b.now }
     ensures { result ≡ deed_of (parse_line (drop o b.now)) }
 {
-    let action = b[o + 1];
-    if action == 1 {
-        return Action::Add;
+    match b[o + 1] {
+        1 => Action::Add,
+        2 => Action::Change,
+        3 => Action::Delete,
+        _ => Action::Copy(Source {
+            sheet: u32::from(b[o + 4]),
+            revision: shape::two_at(b, o + 6),
+        }),
     }
-    if action == 2 {
-        return Action::Change;
-    }
-    if action == 3 {
-        return Action::Delete;
-    }
-    let sheet = b[o + 4] as u32;
-    let revision = shape::two_at(b, o + 6);
-    Action::Copy(Source { sheet, revision })
 }
 
 // What the m changes of a commit block do to sheet i.
@@ -145,34 +146,24 @@ fn deed_in(b: &[u8], m: usize, i: usize) -> Action
     requires { (length b.now ≡ 512) × (m ≤ 32) }
     ensures { result ≡ deed_in i (parse_lines m (drop 16 b.now)) }
 {
-    let mut j: usize = 0;
-    while j < m {
-        let o = 16 + 8 * j;
-        if b[o] as usize == i {
-            return deed_at(b, o);
-        }
-        j += 1;
+    match change_of(b, m, i) {
+        Some(o) => deed_at(b, o),
+        None => Action::Nothing,
     }
-    Action::Nothing
 }
 
 // Seat, stamp and number of changes of commit r, and what it did to sheet i.
 pub fn log_at(store: &[u8], n: usize, used: usize, r: usize, i: usize) -> LogEntry
     requires { Accepted store.now n used × (1 ≤ r) × (r ≤ last (store_history store.now)) × (i < 32) }
-    ensures { answer_of (Logged result) ≡ (doing (store_side store.now) (Log r i)).0 }
+    ensures { answer_of (Ok (Logged result)) ≡ (doing (store_side store.now) (Log r i)).0 }
 {
-    let p = bound(store, n, used, r) - 1;
-    let a = p * 512;
-    let e = a + 512;
-    let b = &store[a..e];
-    let seat = b[6] as u32;
-    let stamp = block::get32(b, 8);
+    let a = (bound(store, n, used, r) - 1) * 512;
+    let b = &store[a..a + 512];
     let changes = shape::two_at(b, 2);
-    let action = deed_in(b, changes as usize, i);
     LogEntry {
-        seat,
-        stamp,
+        seat: u32::from(b[6]),
+        stamp: block::get32(b, 8),
         changes,
-        action,
+        action: deed_in(b, changes as usize, i),
     }
 }

@@ -1,16 +1,15 @@
 -- The bytes that a block holds.
 -- Assumes nothing.
-use Prim.Native.Nat.{◌+◌, ◌-◌, ◌<◌, ◌≤◌, ℕ}
-use mathlib.Core.Bool.{Bool, ◌&&◌, cond, false, true}
+use Prim.Native.Nat.{◌+◌, ◌-◌, ◌<◌, ◌≤◌, min, ℕ}
+use mathlib.Core.Bool.{Bool, cond, false, true}
 use mathlib.Core.List.{List, []}
 use mathlib.Core.Logic.{inl, inr}
 use mathlib.Core.Path.{◌∙◌, ◌≡◌, ap, refl, sym}
-use native.Mathlib.Numerals.{add-one}
 use native.Mathlib.Omega.{arith}
 use borrow.Author.Tests.{eq-eqb, ne_eqb}
 use lib.Dec.{eqb}
-use lib.ListN.{drop, drop_of_length-le, get_or, length, length-drop, length-take, take}
-use lib.Seq.{drop-cons, ext_get_or, get_or-drop, get_or-take, length-take-le}
+use lib.ListN.{drop, get_or, length, length-drop, length-take, take}
+use lib.Seq.{ext_get_or, get_or-drop, get_or-take, length-take-le}
 use Rattle.block.proofs.Says.{eq_or, says_false, says_same}
 use Rattle.block.specs.Field.{four_at, two_at}
 use Rattle.block.specs.Lists.{same}
@@ -42,11 +41,8 @@ module _ (l : List ℕ) (size : length l ≡ 512) where
   size-min : get_or l 0 0 ≡ 2 → length (held (parse l)) ≡ length (take (two_at l 2) (drop 16 l))
   size-min e = ap length (held_is l e)
 
-  pub size_capped : get_or l 0 0 ≡ 2 → 496 < two_at l 2 → 496 ≡ length (held (parse l))
-  size_capped e h = let d = length-drop 16 l in let t = length-take (two_at l 2) (drop 16 l) in omega (arith, size-min e)
-
-  pub size-stated : get_or l 0 0 ≡ 2 → two_at l 2 ≤ 496 → two_at l 2 ≡ length (held (parse l))
-  size-stated e h = let d = length-drop 16 l in let t = length-take (two_at l 2) (drop 16 l) in omega (arith, size-min e)
+  pub size_stated : get_or l 0 0 ≡ 2 → min (two_at l 2) 496 ≡ length (held (parse l))
+  size_stated e = let d = length-drop 16 l in let t = length-take (two_at l 2) (drop 16 l) in omega (arith, size-min e)
 
   held_at : (i : ℕ) → i < length (held (parse l)) → get_or (held (parse l)) i 0 ≡ get_or l (16 + i) 0
   held_at i h =
@@ -66,13 +62,7 @@ module _ (l : List ℕ) (size : length l ≡ 512) where
       ∙ ext_get_or 0 (take n (drop 16 l)) (held (parse l)) (d ∙ e)
       (λ i b. get_or-take n (drop 16 l) i 0 (omega arith) ∙ get_or-drop 16 l i 0 ∙ sym (held_at i (omega arith)))
 
--- two lists from place i on
-pub same_step : (a b : List ℕ) (i : ℕ) → i < length a → i < length b
-    → same (drop i a) (drop i b) ≡ (eqb (get_or a i 0) (get_or b i 0) && same (drop (i + 1) a) (drop (i + 1) b))
-same_step a b i h g = rw (drop-cons a i 0 h, drop-cons b i 0 g, add-one i)
-
-pub same_none : (a b : List ℕ) (i : ℕ) → length a ≤ i → length b ≤ i → same (drop i a) (drop i b) ≡ true
-same_none a b i h g = rw (drop_of_length-le a {i = i} h, drop_of_length-le b {i = i} g)
+pub ruleset size_laws = (size_none, size_stated)
 
 pub same_size : (a b : List ℕ) → (length b ≡ length a → ⊥) → same a b ≡ false
 same_size a b n = says_false (says_same a b) (λ e. n (sym (ap length e)))

@@ -1,25 +1,28 @@
 -- The shape of a block of each kind as a chain of tests on its bytes.
 -- Assumes nothing.
 use Prim.Native.Nat.{◌%◌, ◌*◌, ◌+◌, ◌-◌, ◌/◌, ◌<◌, ◌≤◌, suc, zero, ℕ}
-use mathlib.Core.Bool.{Bool, ◌&&◌, false, true}
+use mathlib.Core.Bool.{Bool, ◌&&◌, and-false, false}
 use mathlib.Core.List.{List, [], ◌∷◌}
 use mathlib.Core.Logic.{inl, inr}
 use mathlib.Core.Path.{◌∙◌, ◌≡◌, ap, refl, subst, sym}
 use native.Mathlib.Decide.{dec_le}
 use native.Mathlib.Omega.{arith}
-use borrow.Author.Tests.{eq-eqb, ne_eqb}
+use borrow.Author.Tests.{lt-leb, ne_eqb}
 use lib.Dec.{T, eqb, leb}
 use lib.ListN.{get_or-eq_default, drop, get_or, length, length-drop, take}
 use lib.Seq.{drop-drop, get_or-drop}
+use Rattle.std.proofs.Common.{Fits, w8}
+use Rattle.std.proofs.lemmas.Bool.Decides.{nat_tests}
 use Rattle.block.proofs.Parts.{first_sixteen}
 use Rattle.block.proofs.Says.{Says, and_true, bool_alike, eq_or, says_alike, says-and, says_eq, says_false, says-le, true_and}
 use Rattle.block.specs.Field.{four_at, two_at}
-use Rattle.block.specs.Lists.{All, all_from, same}
+use Rattle.block.specs.Check.{is_zero}
+use Rattle.block.specs.Lists.{All, same}
 use Rattle.model.specs.Blocks.{Block, FitsLine, commit, fields_of, fits_block, lines_of, mark, parse, parse_lines}
 use Rattle.model.specs.Codec.{pad_to, padded, shaped}
 use Rattle.model.specs.Log.{released}
 use Rattle.laws.proofs.BlockCodes.{block_coded}
-use Rattle.shape.proofs.Scan.{up}
+use Rattle.shape.proofs.Scan.{says-content, up}
 use Rattle.shape.proofs.ScanLines.{LinesOk, eights, past, says-lines}
 use Rattle.shape.proofs.ZeroLaws.{says-zeros}
 use Rattle.shape.specs.Shape.{lines_ok}
@@ -58,8 +61,9 @@ says-lines_ok (suc m) t =
       so_true = λ p. s.so_true (p.0.0, (p.0.1, (p.1, p.2)));
     }
 
-abbrev pub zero_from : List ℕ → ℕ → ℕ → Bool
-zero_from l a n = all_from (λ (i : ℕ). eqb (get_or l i 0) 0) a n
+-- whether the bytes from a up to b are zeros
+abbrev pub zeros : List ℕ → ℕ → ℕ → Bool
+zeros l a b = is_zero (take (b - a) (drop a l))
 
 pub length-parse : (m : ℕ) (t : List ℕ) → length (parse_lines m t) ≡ m
 length-parse zero t = refl
@@ -177,16 +181,13 @@ each P (suc n) p i h =
       | inr o ↦ each P n p.1 i (omega arith)
     ]
 
-and_then : (a b : Bool) → a ≡ true → (a && b) ≡ b
-and_then a b e = ap (λ (x : Bool). x && b) e
-
 module _ (l : List ℕ) (size : length l ≡ 512) where
-  pub label-shaped : get_or l 0 0 ≡ 1 → shaped fields_of parse fits_block l ≡ (eqb (get_or l 1 0) 1 && zero_from l 2 506)
+  label-tests : get_or l 0 0 ≡ 1 → shaped fields_of parse fits_block l ≡ (eqb (get_or l 1 0) 1 && zeros l 2 508)
   unfolding shaped parse padded
-  label-shaped kind =
+  label-tests kind =
       let s = says-padded 508 (1 ∷ 1 ∷ []) l (omega arith) in
       rw kind
-      (says_alike s (says-and (says_eq (get_or l 1 0) 1) (says-zeros l 2 506))
+      (says_alike s (says-and (says_eq (get_or l 1 0) 1) (says-zeros l 2 508 (omega arith) (omega arith)))
       (λ e. (sym (e 1 (omega arith)), λ i a b. rest e i a (omega arith)))
       (λ p. back p.0 p.1))
     where
@@ -195,32 +196,28 @@ module _ (l : List ℕ) (size : length l ≡ 512) where
       rest e (suc zero) a b = absurd (omega arith)
       rest e (suc (suc i)) a b = sym (e (suc (suc i)) b)
 
-      back : get_or l 1 0 ≡ 1 → ((i : ℕ) → 2 ≤ i → i < 2 + 506 → get_or l i 0 ≡ 0) → (i : ℕ) → i < 508 → get_or (1 ∷ 1 ∷ []) i 0 ≡ get_or l i 0
+      back : get_or l 1 0 ≡ 1 → ((i : ℕ) → 2 ≤ i → i < 508 → get_or l i 0 ≡ 0) → (i : ℕ) → i < 508 → get_or (1 ∷ 1 ∷ []) i 0 ≡ get_or l i 0
       back o z zero b = sym kind
       back o z (suc zero) b = sym o
       back o z (suc (suc i)) b = sym (z (suc (suc i)) (omega arith) (omega arith))
 
-  -- the answer of the last test; a variable, so that nothing unrolls the 506 tests
-  pub label_then : (z : Bool) → z ≡ zero_from l 2 506 → get_or l 0 0 ≡ 1 → get_or l 1 0 ≡ 1 → z ≡ shaped fields_of parse fits_block l
-  label_then z e kind o = e ∙ sym (label-shaped kind ∙ and_then (eqb (get_or l 1 0) 1) (zero_from l 2 506) (eq-eqb (get_or l 1 0) 1 o))
-
-  pub blank-shaped : (get_or l 0 0 ≡ 1 → ⊥) → (get_or l 0 0 ≡ 2 → ⊥) → (get_or l 0 0 ≡ 3 → ⊥) → (get_or l 0 0 ≡ 6 → ⊥)
-      → shaped fields_of parse fits_block l ≡ zero_from l 0 508
+  blank-tests : (get_or l 0 0 ≡ 1 → ⊥) → (get_or l 0 0 ≡ 2 → ⊥) → (get_or l 0 0 ≡ 3 → ⊥) → (get_or l 0 0 ≡ 6 → ⊥)
+      → shaped fields_of parse fits_block l ≡ zeros l 0 508
   unfolding shaped parse padded
-  blank-shaped n₁ n₂ n₃ n₆ =
+  blank-tests n₁ n₂ n₃ n₆ =
       let s = says-padded 508 (0 ∷ []) l (omega arith) in
       rw (ne_eqb (get_or l 0 0) 1 n₁, ne_eqb (get_or l 0 0) 2 n₂, ne_eqb (get_or l 0 0) 3 n₃, ne_eqb (get_or l 0 0) 6 n₆)
-      (says_alike s (says-zeros l 0 508) (λ e i a b. sym (e i (omega arith)) ∙ nought i) (λ z i b. nought i ∙ sym (z i (omega arith) (omega arith))))
+      (says_alike s (says-zeros l 0 508 (omega arith) (omega arith)) (λ e i a b. sym (e i (omega arith)) ∙ nought i) (λ z i b. nought i ∙ sym (z i (omega arith) (omega arith))))
     where
       nought : (i : ℕ) → ◌≡◌ {A = ℕ} (get_or (0 ∷ []) i 0) 0
       nought zero = refl
       nought (suc i) = refl
 
   -- no block has another first byte above 3
-  pub none-shaped : 3 < get_or l 0 0 → (get_or l 0 0 ≡ 6 → ⊥) → shaped fields_of parse fits_block l ≡ false
-  none-shaped h n₆ =
-      blank-shaped (λ e. omega arith) (λ e. omega arith) (λ e. omega arith) n₆
-      ∙ says_false (says-zeros l 0 508) (λ z. omega (arith, z 0 (omega arith) (omega arith)))
+  none-tests : 3 < get_or l 0 0 → (get_or l 0 0 ≡ 6 → ⊥) → shaped fields_of parse fits_block l ≡ false
+  none-tests h n₆ =
+      blank-tests (λ e. omega arith) (λ e. omega arith) (λ e. omega arith) n₆
+      ∙ says_false (says-zeros l 0 508 (omega arith) (omega arith)) (λ z. omega (arith, z 0 (omega arith) (omega arith)))
 
   module _ (bytes : (i : ℕ) → get_or l i 0 < 256) (kind : get_or l 0 0 ≡ 6) where
     abbrev release : Block
@@ -232,7 +229,7 @@ module _ (l : List ℕ) (size : length l ≡ 512) where
 
     -- the bytes as they must be
     says_release : Says (same (padded (fields_of release)) (take 508 l))
-        (((i : ℕ) → 1 ≤ i → i < 1 + 3 → get_or l i 0 ≡ 0) × (get_or l 7 0 ≡ 0) × ((i : ℕ) → 12 ≤ i → i < 12 + 496 → get_or l i 0 ≡ 0))
+        (((i : ℕ) → 1 ≤ i → i < 4 → get_or l i 0 ≡ 0) × (get_or l 7 0 ≡ 0) × ((i : ℕ) → 12 ≤ i → i < 508 → get_or l i 0 ≡ 0))
     unfolding padded
     says_release =
         let s = says-padded 508 (fields_of release) l (omega arith) in
@@ -248,7 +245,7 @@ module _ (l : List ℕ) (size : length l ≡ 512) where
         late : (i : ℕ) → 12 ≤ i → get_or (fields_of release) i 0 ≡ 0
         late i a = get_or-eq_default (fields_of release) 0 {n = i} a
 
-        back : ((i : ℕ) → 1 ≤ i → i < 1 + 3 → get_or l i 0 ≡ 0) → get_or l 7 0 ≡ 0 → ((i : ℕ) → 12 ≤ i → i < 12 + 496 → get_or l i 0 ≡ 0)
+        back : ((i : ℕ) → 1 ≤ i → i < 4 → get_or l i 0 ≡ 0) → get_or l 7 0 ≡ 0 → ((i : ℕ) → 12 ≤ i → i < 508 → get_or l i 0 ≡ 0)
             → (i : ℕ) → i < 508 → get_or (fields_of release) i 0 ≡ get_or l i 0
         back z e w i b =
             elim (dec_le 12 i) [
@@ -281,19 +278,14 @@ module _ (l : List ℕ) (size : length l ≡ 512) where
                   i (omega arith)
             ]
 
-    pub release_shaped : shaped fields_of parse fits_block l ≡ (zero_from l 1 3 && (eqb (get_or l 7 0) 0 && zero_from l 12 496))
+    release-tests : shaped fields_of parse fits_block l ≡ (zeros l 1 4 && (eqb (get_or l 7 0) 0 && zeros l 12 508))
     unfolding shaped parse
-    release_shaped =
-        let r = says-and (says-zeros l 1 3) (says-and (says_eq (get_or l 7 0) 0) (says-zeros l 12 496)) in
+    release-tests =
+        let r = says-and (says-zeros l 1 4 (omega arith) (omega arith)) (says-and (says_eq (get_or l 7 0) 0) (says-zeros l 12 508 (omega arith) (omega arith))) in
         rw kind
         (bool_alike (fits_block release && same (padded (fields_of release)) (take 508 l)) _
         (λ t. let p = says_release.true_so (and_true (fits_block release) (same (padded (fields_of release)) (take 508 l)) t).1 in r.so_true (p.0, (p.1, p.2)))
         (λ t. let q = r.true_so t in true_and (fits_block release) (same (padded (fields_of release)) (take 508 l)) release_fits (says_release.so_true (q.0, q.1.0, q.1.1))))
-
-    -- the answer of the last test, as in label_then
-    pub release_then : (z : Bool) → z ≡ zero_from l 12 496 → zero_from l 1 3 ≡ true → get_or l 7 0 ≡ 0 → z ≡ shaped fields_of parse fits_block l
-    release_then z e f o =
-        e ∙ sym (release_shaped ∙ and_then (zero_from l 1 3) (eqb (get_or l 7 0) 0 && zero_from l 12 496) f ∙ and_then (eqb (get_or l 7 0) 0) (zero_from l 12 496) (eq-eqb (get_or l 7 0) 0 o))
 
   module _ (bytes : (i : ℕ) → get_or l i 0 < 256) (kind : get_or l 0 0 ≡ 3) where
     few-fit : two_at l 2 ≤ 32 → T (fits_block (commit (two_at l 4) (get_or l 6 0) (four_at l 8) (parse_lines (two_at l 2) (drop 16 l))))
@@ -333,30 +325,37 @@ module _ (l : List ℕ) (size : length l ≡ 512) where
         commit-any m 492 (four_at l 8) l l (LinesOk m (drop 16 l) × Z) bytes refl refl whole
         (subst (λ (n : ℕ). Says (same (pad_to n (lines_of (parse_lines m (drop 16 l)))) (take n (drop 16 l))) (LinesOk m (drop 16 l) × Z)) e w)
 
-    pub commit-shaped : shaped fields_of parse fits_block l
-        ≡ (eqb (get_or l 1 0) 0 && (leb (two_at l 2) 32 && (eqb (get_or l 7 0) 0 && (zero_from l 12 4
-        && (lines_ok (two_at l 2) (drop 16 l) && zero_from l (16 + 8 * two_at l 2) (492 - 8 * two_at l 2))))))
+    commit-tests : shaped fields_of parse fits_block l
+        ≡ (eqb (get_or l 1 0) 0 && (leb (two_at l 2) 32 && (eqb (get_or l 7 0) 0 && (zeros l 12 16
+        && (lines_ok (two_at l 2) (drop 16 l) && zeros l (16 + 8 * two_at l 2) 508)))))
     unfolding shaped parse
-    commit-shaped =
+    commit-tests =
         let C = commit (two_at l 4) (get_or l 6 0) (four_at l 8) (parse_lines (two_at l 2) (drop 16 l)) in
         let m = two_at l 2 in
-        let r = says-and (says_eq (get_or l 1 0) 0) (says-and (says-le m 32) (says-and (says_eq (get_or l 7 0) 0) (says-and (says-zeros l 12 4)
-        (says-and (says-lines_ok m (drop 16 l)) (says-zeros l (16 + 8 * m) (492 - 8 * m)))))) in
-        rw kind
-        (bool_alike (fits_block C && same (padded (fields_of C)) (take 508 l)) _
-        (λ t. let p = and_true (fits_block C) (same (padded (fields_of C)) (take 508 l)) t in
-        let h = fit-few p.0 in let q = (says-commit h).true_so p.1 in
-        r.so_true (q.0, (h, (q.1, ((λ i a b. four i a b q.2), (q.3.0, q.3.1))))))
-        (λ t. let q = r.true_so t in let h = q.1.0 in let z = q.1.1.1.0 in
-        true_and (fits_block C) (same (padded (fields_of C)) (take 508 l)) (few-fit h)
-        ((says-commit h).so_true (
-          q.0,
-          q.1.1.0,
-          (z 12 (omega arith) (omega arith), z 13 (omega arith) (omega arith), z 14 (omega arith) (omega arith), z 15 (omega arith) (omega arith)),
-          q.1.1.1.1,
-        ))))
+        elim (dec_le m 32) [
+          | no n ↦
+              rw (kind, lt-leb m 32 (omega arith))
+              (bool_alike (fits_block C && same (padded (fields_of C)) (take 508 l)) (eqb (get_or l 1 0) 0 && false)
+              (λ t. absurd (n (fit-few (and_true (fits_block C) (same (padded (fields_of C)) (take 508 l)) t).0)))
+              (λ t. absurd (and_true (eqb (get_or l 1 0) 0) false t).1))
+          | yes h ↦ (
+              let r = says-and (says_eq (get_or l 1 0) 0) (says-and (says-le m 32) (says-and (says_eq (get_or l 7 0) 0) (says-and (says-zeros l 12 16 (omega arith) (omega arith))
+              (says-and (says-lines_ok m (drop 16 l)) (says-zeros l (16 + 8 * m) 508 (omega arith) (omega arith)))))) in
+              rw kind
+              (bool_alike (fits_block C && same (padded (fields_of C)) (take 508 l)) _
+              (λ t. let q = (says-commit h).true_so (and_true (fits_block C) (same (padded (fields_of C)) (take 508 l)) t).1 in
+              r.so_true (q.0, (h, (q.1, ((λ i a b. four i a b q.2), (q.3.0, λ i a b. q.3.1 i a (omega arith)))))))
+              (λ t. let q = r.true_so t in let z = q.1.1.1.0 in
+              true_and (fits_block C) (same (padded (fields_of C)) (take 508 l)) (few-fit h)
+              ((says-commit h).so_true (
+                q.0,
+                q.1.1.0,
+                (z 12 (omega arith) (omega arith), z 13 (omega arith) (omega arith), z 14 (omega arith) (omega arith), z 15 (omega arith) (omega arith)),
+                (q.1.1.1.1.0, λ i a b. q.1.1.1.1.1 i a (omega arith)),
+              )))))
+        ]
       where
-        four : (i : ℕ) → 12 ≤ i → i < 12 + 4 → (get_or l 12 0 ≡ 0) × (get_or l 13 0 ≡ 0) × (get_or l 14 0 ≡ 0) × (get_or l 15 0 ≡ 0) → get_or l i 0 ≡ 0
+        four : (i : ℕ) → 12 ≤ i → i < 16 → (get_or l 12 0 ≡ 0) × (get_or l 13 0 ≡ 0) × (get_or l 14 0 ≡ 0) × (get_or l 15 0 ≡ 0) → get_or l i 0 ≡ 0
         four i a b p =
             elim (eq_or i 12) [
               | inl e ↦ rw e p.0
@@ -368,3 +367,51 @@ module _ (l : List ℕ) (size : length l ≡ 512) where
                 ]
               ]
             ]
+
+-- ---- the same for a slice of the code, whose bytes fit: what the code asks of a block with this first byte
+module _ (l : List ℕ) (fit : (i : ℕ) → Fits w8 (get_or l i 0)) (size : length l ≡ 512) where
+  bytes : (i : ℕ) → get_or l i 0 < 256
+  bytes i = omega (arith, fit i)
+
+  pub label_shaped : get_or l 0 0 ≡ 1 → shaped fields_of parse fits_block l ≡ (eqb (get_or l 1 0) 1 && zeros l 2 508)
+  label_shaped kind = label-tests l size kind
+
+  pub content_shaped : get_or l 0 0 ≡ 2
+      → shaped fields_of parse fits_block l ≡ (eqb (get_or l 1 0) 0 && (leb (two_at l 2) 480 && (zeros l 6 16 && zeros l (16 + two_at l 2) 508)))
+  content_shaped kind =
+      let s = says-content l size bytes kind in
+      elim (dec_le (two_at l 2) 480) [
+        | no n ↦ says_false s (λ p. n p.size) ∙ rw (lt-leb (two_at l 2) 480 (omega arith)) (sym (and-false (eqb (get_or l 1 0) 0)))
+        | yes h ↦
+            says_alike s
+            (says-and (says_eq (get_or l 1 0) 0) (says-and (says-le (two_at l 2) 480)
+            (says-and (says-zeros l 6 16 (omega arith) (omega arith)) (says-zeros l (16 + two_at l 2) 508 (omega arith) (omega arith)))))
+            (λ p. (p.one, (h, (p.gap, p.rest))))
+            (λ q. record { one = q.0; size = h; gap = q.1.1.0; rest = q.1.1.1 })
+      ]
+
+  pub commit_shaped : get_or l 0 0 ≡ 3 → shaped fields_of parse fits_block l
+      ≡ (eqb (get_or l 1 0) 0 && (leb (two_at l 2) 32 && (eqb (get_or l 7 0) 0 && (zeros l 12 16
+      && (lines_ok (two_at l 2) (drop 16 l) && zeros l (16 + 8 * two_at l 2) 508)))))
+  commit_shaped kind = commit-tests l size bytes kind
+
+  pub release_shaped : get_or l 0 0 ≡ 6 → shaped fields_of parse fits_block l ≡ (zeros l 1 4 && (eqb (get_or l 7 0) 0 && zeros l 12 508))
+  release_shaped kind = release-tests l size bytes kind
+
+  -- no block has another first byte above 3
+  pub none_shaped : 3 < get_or l 0 0 → (get_or l 0 0 ≡ 6 → ⊥) → shaped fields_of parse fits_block l ≡ false
+  none_shaped h n = none-tests l size h n
+
+  pub blank_shaped : get_or l 0 0 ≤ 3 → (get_or l 0 0 ≡ 1 → ⊥) → (get_or l 0 0 ≡ 2 → ⊥) → (get_or l 0 0 ≡ 3 → ⊥)
+      → shaped fields_of parse fits_block l ≡ is_zero (take 508 l)
+  blank_shaped h n₁ n₂ n₃ = blank-tests l size n₁ n₂ n₃ (λ e. omega arith)
+
+pub ruleset label_law = (label_shaped, nat_tests)
+
+pub ruleset content_law = (content_shaped, nat_tests)
+
+pub ruleset commit_law = (commit_shaped, nat_tests)
+
+pub ruleset release_law = (release_shaped, nat_tests)
+
+pub ruleset other_laws = (none_shaped, blank_shaped, nat_tests)

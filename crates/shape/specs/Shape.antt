@@ -2,14 +2,16 @@
 -- Assumes nothing.
 use Rattle.std.specs.Prelude.{suc, zero, ℕ, Bool, ◌&&◌, true, List, eqb, leb, drop, get_or}
 use Rattle.model.specs.Blocks.{Block, blank, commit, content, label, mark}
+use Rattle.shape.specs.declared.BlockKind.{BlockKind}
+use Rattle.shape.specs.declared.BlockKind.TheVariants.{Blank, Commit, Content, Label, Mark}
 
--- what a block is: 1 label, 2 content, 3 commit, 4 a mark, 0 blank
-abbrev pub kind_of : Block → ℕ
-kind_of label = 1
-kind_of (content r b) = 2
-kind_of (commit r s t ls) = 3
-kind_of (mark m) = 4
-kind_of blank = 0
+-- what a block is
+abbrev pub kind_of : Block → BlockKind
+kind_of label = Label
+kind_of (content r b) = Content
+kind_of (commit r s t ls) = Commit
+kind_of (mark m) = Mark
+kind_of blank = Blank
 
 -- m changes, each with an action 1 to 4 and a zero in its byte 5
 abbrev pub lines_ok : ℕ → List ℕ → Bool

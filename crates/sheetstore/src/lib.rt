@@ -5,14 +5,13 @@
 ghost use Rattle.std.specs.Prelude.{◌≡◌};
 ghost use Rattle.model.specs.Calls.{add_call, clear_call, clear_cut_call, commit_call, commit_cut_call, copy_call, create_copy, create_store, delete_call, edit_call, log_call, move_call, panel_place, read_place, release_call, revert_call, show_place, status_call, update_call};
 ghost use Rattle.model.specs.Types.{answer_of, place_of};
-ghost use Rattle.model.specs.declared.Answer.TheVariants.{Logged};
-ghost use Rattle.sheetstore.specs.Numbers.{answer_numbers, both, both_numbers, copy_numbers, cut_as, cut_both, cut_both_numbers, cut_left, cut_left_numbers, cut_numbers, left, left_numbers, log_numbers, no_log, no_standing, part_numbers, standing_numbers};
+ghost use Rattle.sheetstore.specs.Numbers.{answer_numbers, both, both_numbers, copy_numbers, cut_both, cut_both_numbers, cut_left, cut_left_numbers, cut_numbers, left, left_numbers, log_numbers, no_log, part_numbers, standing_numbers};
 ghost use Rattle.sheetstore.specs.Replay.{ReplayNumbers};
 ghost use Rattle.turns.specs.InTurn.{in_turn_call};
 ghost use Rattle.turns.specs.Turned.{turned, turned_of};
 ghost use Rattle.turns.specs.Turns.{Ask, Give, TakeBack, numbers_of, turn_call};
 
-use model::{Answer, LogEntry, Place};
+use model::{Answer, Place, Refusal};
 use turns::{Held, TurnRecord};
 
 // A refusal's number, or 0 and the revision, if the call answers one.
@@ -66,137 +65,89 @@ pub struct SheetsLog {
 }
 
 // The numbers of an answer. Of the calls that answer them none stops.
-fn answer_numbers(answer: Answer) -> SheetsAnswer
-    ensures { result ≡ answer_numbers (answer_of answer) }
-{
-    match answer {
-        Answer::Refused(k) => {
-            let refusal = engine::number(k);
-            SheetsAnswer { refusal, value: 0 }
-        }
-        Answer::Done => SheetsAnswer {
-            refusal: 0,
-            value: 0,
-        },
-        Answer::Revision(value) => SheetsAnswer { refusal: 0, value },
-        Answer::Status(_) => SheetsAnswer {
-            refusal: 0,
-            value: 0,
-        },
-        Answer::Logged(_) => SheetsAnswer {
-            refusal: 0,
-            value: 0,
-        },
-        Answer::Stopped => SheetsAnswer {
-            refusal: 0,
-            value: 0,
-        },
-    }
-}
+impl From<Result<Answer, Refusal>> for SheetsAnswer {
+    ghost from_gives = { λ a n. n ≡ answer_numbers (answer_of a) };
 
-// It did not stop: a refusal's number, or 0, and a value.
-fn not_stopped(refusal: u32, value: u32) -> SheetsCutAnswer
-    ensures { result ≡ cut_as refusal 0 value }
-{
-    SheetsCutAnswer {
-        refusal,
-        stopped: 0,
-        value,
+    fn from(answer: Result<Answer, Refusal>) -> SheetsAnswer {
+        match answer {
+            Err(k) => SheetsAnswer {
+                refusal: u32::from(k),
+                value: 0,
+            },
+            Ok(Answer::Revision(value)) => SheetsAnswer { refusal: 0, value },
+            Ok(_) => SheetsAnswer {
+                refusal: 0,
+                value: 0,
+            },
+        }
     }
 }
 
 // The numbers of the answer of a call that stops after n block writes.
-fn cut_numbers(answer: Answer) -> SheetsCutAnswer
-    ensures { result ≡ cut_numbers (answer_of answer) }
-{
-    match answer {
-        Answer::Refused(k) => not_stopped(engine::number(k), 0),
-        Answer::Done => not_stopped(0, 0),
-        Answer::Revision(value) => not_stopped(0, value),
-        Answer::Status(_) => not_stopped(0, 0),
-        Answer::Logged(_) => not_stopped(0, 0),
-        Answer::Stopped => SheetsCutAnswer {
-            refusal: 0,
-            stopped: 1,
-            value: 0,
-        },
+impl From<Result<Answer, Refusal>> for SheetsCutAnswer {
+    ghost from_gives = { λ a n. n ≡ cut_numbers (answer_of a) };
+
+    fn from(answer: Result<Answer, Refusal>) -> SheetsCutAnswer {
+        let (refusal, stopped, value) = match answer {
+            Err(k) => (u32::from(k), 0, 0),
+            Ok(Answer::Stopped) => (0, 1, 0),
+            Ok(Answer::Revision(value)) => (0, 0, value),
+            Ok(_) => (0, 0, 0),
+        };
+        SheetsCutAnswer {
+            refusal,
+            stopped,
+            value,
+        }
     }
 }
 
 // The numbers of a place.
-fn part_numbers(place: Place) -> SheetsPart
-    ensures { result ≡ part_numbers (place_of place) }
-{
-    match place {
-        Place::Refused(k) => {
-            let refusal = engine::number(k);
-            SheetsPart {
-                refusal,
+impl From<Result<Place, Refusal>> for SheetsPart {
+    ghost from_gives = { λ p n. n ≡ part_numbers (place_of p) };
+
+    fn from(place: Result<Place, Refusal>) -> SheetsPart {
+        match place {
+            Err(k) => SheetsPart {
+                refusal: u32::from(k),
                 buffer: 0,
                 start: 0,
                 len: 0,
                 revision: 0,
-            }
+            },
+            Ok(Place::InStore(p, revision)) => SheetsPart {
+                refusal: 0,
+                buffer: 0,
+                start: p.start,
+                len: p.len,
+                revision,
+            },
+            Ok(Place::InCopy(p)) => SheetsPart {
+                refusal: 0,
+                buffer: 1,
+                start: p.start,
+                len: p.len,
+                revision: 0,
+            },
         }
-        Place::InStore(p, revision) => SheetsPart {
-            refusal: 0,
-            buffer: 0,
-            start: p.start,
-            len: p.len,
-            revision,
-        },
-        Place::InCopy(p) => SheetsPart {
-            refusal: 0,
-            buffer: 1,
-            start: p.start,
-            len: p.len,
-            revision: 0,
-        },
-    }
-}
-
-// No status: a refusal's number and zeros.
-fn no_standing(refusal: u32) -> SheetsStanding
-    ensures { result ≡ no_standing refusal }
-{
-    SheetsStanding {
-        refusal,
-        status: 0,
-        revision: 0,
     }
 }
 
 // The numbers of an answer of status.
-fn standing_numbers(answer: Answer) -> SheetsStanding
-    ensures { result ≡ standing_numbers (answer_of answer) }
-{
-    match answer {
-        Answer::Refused(k) => no_standing(engine::number(k)),
-        Answer::Done => no_standing(0),
-        Answer::Revision(_) => no_standing(0),
-        Answer::Status(s) => SheetsStanding {
-            refusal: 0,
-            status: s.status,
-            revision: s.revision,
-        },
-        Answer::Logged(_) => no_standing(0),
-        Answer::Stopped => no_standing(0),
-    }
-}
+impl From<Result<Answer, Refusal>> for SheetsStanding {
+    ghost from_gives = { λ a n. n ≡ standing_numbers (answer_of a) };
 
-// The numbers of what log tells.
-fn told(entry: LogEntry) -> SheetsLog
-    ensures { result ≡ log_numbers (answer_of (Logged entry)) }
-{
-    let action = entry.action;
-    SheetsLog {
-        refusal: 0,
-        seat: entry.seat,
-        stamp: entry.stamp,
-        changes: entry.changes,
-        action: engine::action_number(action),
-        source_sheet: engine::source_sheet(action),
-        source_revision: engine::source_revision(action),
+    fn from(answer: Result<Answer, Refusal>) -> SheetsStanding {
+        let (refusal, status, revision) = match answer {
+            Err(k) => (u32::from(k), 0, 0),
+            Ok(Answer::Status(s)) => (0, s.status, s.revision),
+            Ok(_) => (0, 0, 0),
+        };
+        SheetsStanding {
+            refusal,
+            status,
+            revision,
+        }
     }
 }
 
@@ -216,16 +167,26 @@ fn untold(refusal: u32) -> SheetsLog
 }
 
 // The numbers of an answer of log.
-fn log_numbers(answer: Answer) -> SheetsLog
-    ensures { result ≡ log_numbers (answer_of answer) }
-{
-    match answer {
-        Answer::Refused(k) => untold(engine::number(k)),
-        Answer::Done => untold(0),
-        Answer::Revision(_) => untold(0),
-        Answer::Status(_) => untold(0),
-        Answer::Logged(entry) => told(entry),
-        Answer::Stopped => untold(0),
+impl From<Result<Answer, Refusal>> for SheetsLog {
+    ghost from_gives = { λ a n. n ≡ log_numbers (answer_of a) };
+
+    fn from(answer: Result<Answer, Refusal>) -> SheetsLog {
+        match answer {
+            Err(k) => untold(u32::from(k)),
+            Ok(Answer::Logged(entry)) => {
+                let source = entry.action.source();
+                SheetsLog {
+                    refusal: 0,
+                    seat: entry.seat,
+                    stamp: entry.stamp,
+                    changes: entry.changes,
+                    action: u32::from(entry.action),
+                    source_sheet: source.sheet,
+                    source_revision: source.revision,
+                }
+            }
+            Ok(_) => untold(0),
+        }
     }
 }
 
@@ -234,7 +195,7 @@ fn log_numbers(answer: Answer) -> SheetsLog
 pub extern "C" fn sheets_create_store(store: &mut [u8]) -> SheetsAnswer
     ensures { left result store.new ≡ left_numbers (create_store store.old) }
 {
-    answer_numbers(engine::create_store(store))
+    SheetsAnswer::from(engine::create_store(store))
 }
 
 // A fresh working copy of a seat.
@@ -242,7 +203,7 @@ pub extern "C" fn sheets_create_store(store: &mut [u8]) -> SheetsAnswer
 pub extern "C" fn sheets_create_copy(copy: &mut [u8], seat: u32) -> SheetsAnswer
     ensures { left result copy.new ≡ left_numbers (create_copy copy.old seat) }
 {
-    answer_numbers(engine::create_copy(copy, seat))
+    SheetsAnswer::from(engine::create_copy(copy, seat))
 }
 
 // Where the bytes of a sheet of a revision stand in the store, and the last commit up to it that names the sheet.
@@ -250,7 +211,7 @@ pub extern "C" fn sheets_create_copy(copy: &mut [u8], seat: u32) -> SheetsAnswer
 pub extern "C" fn sheets_read(store: &[u8], revision: u32, sheet: u32) -> SheetsPart
     ensures { result ≡ part_numbers (read_place store.now revision sheet) }
 {
-    part_numbers(engine::read_place(store, revision, sheet))
+    SheetsPart::from(engine::read_place(store, revision, sheet))
 }
 
 // What a panel shows of a sheet at a revision: where `sheets_read` finds it at the greatest released revision up to this one.
@@ -258,7 +219,7 @@ pub extern "C" fn sheets_read(store: &[u8], revision: u32, sheet: u32) -> Sheets
 pub extern "C" fn sheets_panel_read(store: &[u8], revision: u32, sheet: u32) -> SheetsPart
     ensures { result ≡ part_numbers (panel_place store.now revision sheet) }
 {
-    part_numbers(engine::panel_place(store, revision, sheet))
+    SheetsPart::from(engine::panel_place(store, revision, sheet))
 }
 
 // What a revision did to a sheet.
@@ -266,7 +227,7 @@ pub extern "C" fn sheets_panel_read(store: &[u8], revision: u32, sheet: u32) -> 
 pub extern "C" fn sheets_log(store: &[u8], revision: u32, sheet: u32) -> SheetsLog
     ensures { result ≡ log_numbers (log_call store.now revision sheet) }
 {
-    log_numbers(engine::log(store, revision, sheet))
+    SheetsLog::from(engine::log(store, revision, sheet))
 }
 
 // The empty entry of a sheet becomes added, with these bytes.
@@ -279,7 +240,7 @@ pub extern "C" fn sheets_add(
 ) -> SheetsAnswer
     ensures { left result copy.new ≡ copy_numbers (add_call store.now copy.old sheet bytes.now) }
 {
-    answer_numbers(engine::add(store, copy, sheet, bytes))
+    SheetsAnswer::from(engine::add(store, copy, sheet, bytes))
 }
 
 // Other bytes in a normal, added or copied entry.
@@ -292,7 +253,7 @@ pub extern "C" fn sheets_edit(
 ) -> SheetsAnswer
     ensures { left result copy.new ≡ copy_numbers (edit_call store.now copy.old sheet bytes.now) }
 {
-    answer_numbers(engine::edit(store, copy, sheet, bytes))
+    SheetsAnswer::from(engine::edit(store, copy, sheet, bytes))
 }
 
 // A normal entry becomes deleted, an added or copied one empty.
@@ -300,7 +261,7 @@ pub extern "C" fn sheets_edit(
 pub extern "C" fn sheets_delete(store: &[u8], copy: &mut [u8], sheet: u32) -> SheetsAnswer
     ensures { left result copy.new ≡ copy_numbers (delete_call store.now copy.old sheet) }
 {
-    answer_numbers(engine::delete(store, copy, sheet))
+    SheetsAnswer::from(engine::delete(store, copy, sheet))
 }
 
 // The empty entry of sheet `to` becomes a copy of that of sheet `from`.
@@ -308,7 +269,7 @@ pub extern "C" fn sheets_delete(store: &[u8], copy: &mut [u8], sheet: u32) -> Sh
 pub extern "C" fn sheets_copy(store: &[u8], copy: &mut [u8], from: u32, to: u32) -> SheetsAnswer
     ensures { left result copy.new ≡ copy_numbers (copy_call store.now copy.old from to) }
 {
-    answer_numbers(engine::copy_sheet(store, copy, from, to))
+    SheetsAnswer::from(engine::copy_sheet(store, copy, from, to))
 }
 
 // Copy, then delete of sheet `from`.
@@ -316,7 +277,7 @@ pub extern "C" fn sheets_copy(store: &[u8], copy: &mut [u8], from: u32, to: u32)
 pub extern "C" fn sheets_move(store: &[u8], copy: &mut [u8], from: u32, to: u32) -> SheetsAnswer
     ensures { left result copy.new ≡ copy_numbers (move_call store.now copy.old from to) }
 {
-    answer_numbers(engine::move_sheet(store, copy, from, to))
+    SheetsAnswer::from(engine::move_sheet(store, copy, from, to))
 }
 
 // The chosen pending entries become the next revision; its number is the value.
@@ -329,7 +290,7 @@ pub extern "C" fn sheets_commit(
 ) -> SheetsAnswer
     ensures { both result store.new copy.new ≡ both_numbers (commit_call store.old copy.old stamp mask) }
 {
-    answer_numbers(engine::commit(store, copy, stamp, mask))
+    SheetsAnswer::from(engine::commit(store, copy, stamp, mask))
 }
 
 // The same through the turn record, which the copy's seat must hold.
@@ -343,7 +304,7 @@ pub extern "C" fn sheets_commit_in_turn(
 ) -> SheetsAnswer
     ensures { both result store.new copy.new ≡ both_numbers (in_turn_call store.old copy.old (numbers_of turn) stamp mask) }
 {
-    answer_numbers(engine::commit_in_turn(store, copy, turn, stamp, mask))
+    SheetsAnswer::from(engine::commit_in_turn(store, copy, turn, stamp, mask))
 }
 
 // The chosen entries come to a revision, unless one is a conflict.
@@ -356,7 +317,7 @@ pub extern "C" fn sheets_update(
 ) -> SheetsAnswer
     ensures { left result copy.new ≡ copy_numbers (update_call store.now copy.old mask revision) }
 {
-    answer_numbers(engine::update(store, copy, mask, revision))
+    SheetsAnswer::from(engine::update(store, copy, mask, revision))
 }
 
 // The chosen entries come back to their base.
@@ -364,7 +325,7 @@ pub extern "C" fn sheets_update(
 pub extern "C" fn sheets_revert(store: &[u8], copy: &mut [u8], mask: u32) -> SheetsAnswer
     ensures { left result copy.new ≡ copy_numbers (revert_call store.now copy.old mask) }
 {
-    answer_numbers(engine::revert(store, copy, mask))
+    SheetsAnswer::from(engine::revert(store, copy, mask))
 }
 
 // The blocks of the store's tail become zero blocks, from the highest down; the history stays.
@@ -372,7 +333,7 @@ pub extern "C" fn sheets_revert(store: &[u8], copy: &mut [u8], mask: u32) -> She
 pub extern "C" fn sheets_clear(store: &mut [u8]) -> SheetsAnswer
     ensures { left result store.new ≡ left_numbers (clear_call store.old) }
 {
-    answer_numbers(engine::clear(store))
+    SheetsAnswer::from(engine::clear(store))
 }
 
 // The poolside panels may show this revision.
@@ -385,7 +346,7 @@ pub extern "C" fn sheets_release(
 ) -> SheetsAnswer
     ensures { left result store.new ≡ left_numbers (release_call store.old revision seat stamp) }
 {
-    answer_numbers(engine::release(store, revision, seat, stamp))
+    SheetsAnswer::from(engine::release(store, revision, seat, stamp))
 }
 
 // Commit, stopped after n block writes with the copy untouched; with n enough for all its writes it is `sheets_commit`.
@@ -399,7 +360,7 @@ pub extern "C" fn sheets_commit_cut(
 ) -> SheetsCutAnswer
     ensures { cut_both result store.new copy.new ≡ cut_both_numbers (commit_cut_call store.old copy.old stamp mask n) }
 {
-    cut_numbers(engine::commit_cut(store, copy, stamp, mask, n))
+    SheetsCutAnswer::from(engine::commit_cut(store, copy, stamp, mask, n))
 }
 
 // Clear, stopped after n block writes; with n enough for all its writes it is `sheets_clear`.
@@ -407,7 +368,7 @@ pub extern "C" fn sheets_commit_cut(
 pub extern "C" fn sheets_clear_cut(store: &mut [u8], n: u32) -> SheetsCutAnswer
     ensures { cut_left result store.new ≡ cut_left_numbers (clear_cut_call store.old n) }
 {
-    cut_numbers(engine::clear_cut(store, n))
+    SheetsCutAnswer::from(engine::clear_cut(store, n))
 }
 
 // Where the bytes that a seat sees of a sheet stand: its own in the working copy, else the last revision's in the store.
@@ -415,7 +376,7 @@ pub extern "C" fn sheets_clear_cut(store: &mut [u8], n: u32) -> SheetsCutAnswer
 pub extern "C" fn sheets_show<'a>(store: &'a [u8], copy: &'a [u8], sheet: u32) -> SheetsPart
     ensures { result ≡ part_numbers (show_place store.now copy.now sheet) }
 {
-    part_numbers(engine::show_place(store, copy, sheet))
+    SheetsPart::from(engine::show_place(store, copy, sheet))
 }
 
 // The status of a sheet's entry, and the last commit that names the sheet.
@@ -423,7 +384,7 @@ pub extern "C" fn sheets_show<'a>(store: &'a [u8], copy: &'a [u8], sheet: u32) -
 pub extern "C" fn sheets_status<'a>(store: &'a [u8], copy: &'a [u8], sheet: u32) -> SheetsStanding
     ensures { result ≡ standing_numbers (status_call store.now copy.now sheet) }
 {
-    standing_numbers(engine::status(store, copy, sheet))
+    SheetsStanding::from(engine::status(store, copy, sheet))
 }
 
 // The calls of a script on a store and four working copies side by side, and a record for each answer.
@@ -436,7 +397,7 @@ pub extern "C" fn sheets_replay(
 ) -> SheetsAnswer
     ensures { ReplayNumbers script.now store.old copies.old answers.old result store.new copies.new answers.new }
 {
-    answer_numbers(replay::replay(script, store, copies, answers))
+    SheetsAnswer::from(replay::replay(script, store, copies, answers))
 }
 
 // A seat asks for the turn; the answer is who holds it then.

@@ -1,15 +1,14 @@
 -- A store's blocks one after the other, and the bytes that one of them holds.
 -- Assumes nothing.
 use Prim.Native.Nat.{◌*◌, ◌+◌, ◌-◌, ◌<◌, ◌≤◌, suc, zero, ℕ}
-use mathlib.Core.Bool.{Bool, ◌&&◌, false, true}
 use mathlib.Core.List.{List, [], ◌∷◌, map}
-use mathlib.Core.Path.{◌∙◌, ◌≡◌, ap, ap₂, refl, sym}
+use mathlib.Core.Path.{◌∙◌, ◌≡◌, ap, refl, sym}
 use native.Mathlib.Omega.{arith}
 use borrow.Author.Tests.{ne_eqb}
 use lib.Dec.{eqb}
 use lib.ListN.{get_or-eq_default, drop, get_or, length, length-drop, length-take, take}
 use lib.Seq.{drop-drop}
-use Rattle.block.specs.Lists.{all, same}
+use Rattle.block.specs.Lists.{same}
 use Rattle.model.specs.Blocks.{Block, FitsBlock, blank, bytes_at, fields_of, fits_block, held, parse}
 use Rattle.model.specs.Codec.{parts}
 use Rattle.model.specs.Store.{blocks_of}
@@ -25,32 +24,6 @@ lent_is s p = let e : p * 512 + 512 - p * 512 ≡ 512 = omega arith in ap (λ (k
 
 pub part_size : (s : List ℕ) (n p : ℕ) → n * 512 ≤ length s → p < n → length (lent s p) ≡ 512
 part_size s n p e h = simp (length-take, length-drop) (omega arith)
-
--- a test of every part: what is left from part p on
-abbrev pub all_left_lem : (List ℕ → Bool) → List ℕ → ℕ → ℕ → Bool
-all_left_lem f s n p = all f (parts (n - p) (drop (p * 512) s))
-
-pub left-whole : (f : List ℕ → Bool) (s : List ℕ) (n : ℕ) → all_left_lem f s n 0 ≡ all f (parts n s)
-left-whole f s n = let e : n - 0 ≡ n = omega arith in ap (λ (x : ℕ). all f (parts x s)) e
-
-module _ (f : List ℕ → Bool) (s : List ℕ) (n p : ℕ) (w : Bool) (inv : all_left_lem f s n p ≡ w) where
-  module _ (h : p < n) (t : Bool) (et : t ≡ f (lent s p)) where
-    step : all_left_lem f s n p ≡ (t && all_left_lem f s n (p + 1))
-    step =
-        let e : n - p ≡ suc (n - (p + 1)) = omega arith in
-        let d : p * 512 + 512 ≡ (p + 1) * 512 = omega arith in
-        ap (λ (x : ℕ). all f (parts x (drop (p * 512) s))) e
-        ∙ ap₂ (λ (x : Bool) (y : List ℕ). x && all f (parts (n - (p + 1)) y))
-        (ap f (sym (lent_is s p)) ∙ sym et) (drop-drop 512 (p * 512) s ∙ ap (λ (x : ℕ). drop x s) d)
-
-    pub part_fails : t ≡ false → false ≡ w
-    part_fails e = sym (ap (λ (x : Bool). x && all_left_lem f s n (p + 1)) e) ∙ sym step ∙ inv
-
-    pub part_passes : t ≡ true → all_left_lem f s n (p + 1) ≡ w
-    part_passes e = sym (ap (λ (x : Bool). x && all_left_lem f s n (p + 1)) e) ∙ sym step ∙ inv
-
-  pub parts-done : n ≤ p → true ≡ w
-  parts-done h = let e : n - p ≡ 0 = omega arith in sym (ap (λ (x : ℕ). all f (parts x (drop (p * 512) s))) e) ∙ inv
 
 -- the blocks of a store
 pub length-blocks : (n : ℕ) (s : List ℕ) → length (blocks_of n s) ≡ n

@@ -1,5 +1,6 @@
 -- The forward pass over the whole blocks is the test for refusal 3, and its numbers are the store's.
 -- Assumes nothing.
+use Rattle.std.specs.Prelude.{Err, Ok, Result}
 use Prim.Native.Nat.{◌+◌, ◌-◌, ◌<◌, suc, zero, ℕ}
 use mathlib.Core.Bool.{Bool, ◌&&◌, cond, false, not, true}
 use mathlib.Core.List.{List, [], ◌++◌, ◌∷◌, append-nil}
@@ -22,8 +23,7 @@ use Rattle.laws.proofs.Untailing.{all-blanks, stem_split}
 use Rattle.store.proofs.Loose.{blank_ok, ends, pass_bare, reached-tail, read_stem}
 use Rattle.store.specs.Opened.{ok_tail, passed, reached}
 use Rattle.store.specs.declared.Header.{Header}
-use Rattle.store.specs.declared.Opened.{Opened}
-use Rattle.store.specs.declared.Opened.TheVariants.{Open, Refused}
+use Rattle.model.specs.declared.Refusal.{Refusal}
 
 -- ---- no blank block among some, and blank ones after them
 
@@ -175,13 +175,13 @@ module _ (z : ℕ) (R : List Block) where
   pub judged_alone : T (judged z (label ∷ R)) → Alone (stem (label ∷ R)) (bare_blocks z (label ∷ R))
   judged_alone = subst (λ (s : List Block). T (judged_by (label ∷ R) (s ++ bl) (length s) (suc (length R))) → Alone s (s ++ bl)) (sym (on_label S)) tested_alone
 
-  answered : (b c : Bool) (x y : Header) → b ≡ c → (T b → x ≡ y) → ◌≡◌ {A = Opened} (cond b (Open x) (Refused StoreLayout)) (cond c (Open y) (Refused StoreLayout))
-  answered true c x y e f = ap (λ (h : Header). Open h) (f tt) ∙ ap (λ (t : Bool). cond t (Open y) (Refused StoreLayout)) e
-  answered false c x y e f = ap (λ (t : Bool). cond t (Open y) (Refused StoreLayout)) e
+  answered : (b c : Bool) (x y : Header) → b ≡ c → (T b → x ≡ y) → ◌≡◌ {A = Result Header Refusal} (cond b (Ok x) (Err StoreLayout)) (cond c (Ok y) (Err StoreLayout))
+  answered true c x y e f = ap (λ (h : Header). Ok h) (f tt) ∙ ap (λ (t : Bool). cond t (Ok y) (Err StoreLayout)) e
+  answered false c x y e f = ap (λ (t : Bool). cond t (Ok y) (Err StoreLayout)) e
 
   -- THE LAW
-  pub judged_passed : passed (bytes_at (label ∷ R)) 1 0 (replicate 32 0 ∷ []) R ≡ cond (judged z (label ∷ R)) (Open (head_of (bare_blocks z (label ∷ R)))) (Refused StoreLayout)
+  pub judged_passed : passed (bytes_at (label ∷ R)) 1 0 (replicate 32 0 ∷ []) R ≡ cond (judged z (label ∷ R)) (Ok (head_of (bare_blocks z (label ∷ R)))) (Err StoreLayout)
   unfolding passed
   judged_passed =
       answered (ok_tail here 1 0 first R) tested (record { last = 0 + length (read_from here R); used = reached 1 0 R }) (head_of (label ∷ (S ++ bl))) tested_is numbers
-      ∙ ap (λ (s : List Block). cond (judged_by (label ∷ R) (s ++ bl) (length s) (suc (length R))) (Open (head_of (s ++ bl))) (Refused StoreLayout)) (sym (on_label S))
+      ∙ ap (λ (s : List Block). cond (judged_by (label ∷ R) (s ++ bl) (length s) (suc (length R))) (Ok (head_of (s ++ bl))) (Err StoreLayout)) (sym (on_label S))

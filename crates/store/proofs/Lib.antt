@@ -8,3 +8,4 @@ pub mod Loose
 pub mod Judged
 pub mod OpenLaws
 pub mod Opening
+pub mod Chunks

@@ -1,8 +1,10 @@
 -- Opening a store: each refusal in its order, and the pass.
 -- Assumes nothing.
+use Rattle.std.specs.Prelude.{Err, Ok, Result}
 use Prim.Native.Nat.{◌%◌, ◌*◌, ◌-◌, ◌/◌, ◌<◌, ◌≤◌, suc, zero, ℕ}
 use mathlib.Core.Bool.{Bool, ◌&&◌, cond, false, not, true}
 use mathlib.Core.List.{List, [], ◌++◌, ◌∷◌}
+use mathlib.Core.Logic.{inl, inr, ◌⊎◌}
 use mathlib.Core.Option.{none, some}
 use mathlib.Core.Path.{◌∙◌, ◌≡◌, ap, ap₂, refl, subst, sym}
 use native.Mathlib.Omega.{arith}
@@ -18,6 +20,7 @@ use Rattle.model.specs.Layout.{Table}
 use Rattle.model.specs.Log.{Log, marks, marks_ok}
 use Rattle.model.specs.Pass.{log_all, ok}
 use Rattle.model.specs.Store.{bare_in, blocks_of, checked, checked_but, counted_by, filled_in, front, history_of, lawful, lawful_but, on_stem, stem, stem_in, whole_by, whole_in}
+use Rattle.model.specs.declared.Refusal.{Refusal}
 use Rattle.model.specs.declared.Refusal.TheVariants.{StoreCheck, StoreLayout, StoreLength}
 use Rattle.laws.proofs.Untailing.{bare-shaped, bare-stem, shaped_in, stem_split}
 use Rattle.marks.proofs.Turns.{markless}
@@ -25,13 +28,13 @@ use Rattle.marks.specs.Laid.{Laid}
 use Rattle.marks.specs.Revisions.{is_mark}
 use Rattle.shape.specs.Rows.{rows_of}
 use Rattle.shape.specs.Shape.{kind_of}
+use Rattle.shape.specs.declared.BlockKind.TheVariants.{Label}
 use Rattle.store.proofs.Blocks.{block_at, blocks-taken, length-blocks, lent, lent_is}
 use Rattle.store.proofs.Judged.{Alone, bare_blocks, head_of, judged, judged_alone, judged_passed, judged_by}
 use Rattle.store.proofs.PassLaws.{parse-label, rest-step}
 use Rattle.store.specs.Known.{Fresh}
 use Rattle.store.specs.Opened.{Markless, marked_of, open_of, opened_as, opened_by, passed, passed_all}
 use Rattle.store.specs.declared.Header.{Header}
-use Rattle.store.specs.declared.Opened.TheVariants.{Open, Refused}
 use Rattle.store.specs.declared.Passed.{Passed}
 use Rattle.store.specs.declared.Passed.TheVariants.{Plain}
 
@@ -41,7 +44,7 @@ blanks-other zero = refl
 blanks-other (suc z) = refl
 
 -- blocks whose first is no label
-stem-other : (b : Block) (rest : List Block) (z : ℕ) → (kind_of b ≡ 1 → ⊥) → ok (bare_blocks z (b ∷ rest)) ≡ false
+stem-other : (b : Block) (rest : List Block) (z : ℕ) → (kind_of b ≡ Label → ⊥) → ok (bare_blocks z (b ∷ rest)) ≡ false
 unfolding ok
 stem-other label rest z n = absurd (n refl)
 stem-other (content r b) rest z n = go (stem rest)
@@ -111,17 +114,17 @@ whole_is n f m l e g = g ∙ ap (λ (x : ℕ). whole_by x l) e
 
 module _ (l : List ℕ) where
   -- refusal 1
-  pub open_odd : (length l % 512 ≡ 0 → ⊥) → open_of l ≡ Refused StoreLength
+  pub open_odd : (length l % 512 ≡ 0 → ⊥) → open_of l ≡ Err StoreLength
   unfolding open_of
   open_odd n = rw (ne_eqb (length l % 512) 0 n)
 
   module _ (e : length l % 512 ≡ 0) where
-    pub open_small : length l / 512 < 2 → open_of l ≡ Refused StoreLength
+    pub open_small : length l / 512 < 2 → open_of l ≡ Err StoreLength
     unfolding open_of
     open_small h = rw (eq-eqb (length l % 512) 0 e, lt-ltb (length l / 512) 2 h)
 
     module _ (low : 2 ≤ length l / 512) where
-      pub open_large : 4_096 < length l / 512 → open_of l ≡ Refused StoreLength
+      pub open_large : 4_096 < length l / 512 → open_of l ≡ Err StoreLength
       unfolding open_of
       open_large g = rw (eq-eqb (length l % 512) 0 e, le-ltb (length l / 512) 2 low, lt-ltb 4_096 (length l / 512) g)
 
@@ -133,7 +136,7 @@ module _ (l : List ℕ) where
         size = omega arith
 
         -- refusals 2 and 3
-        pub open_unchecked : checked_but (length l / 512) l ≡ false → open_of l ≡ Refused StoreCheck
+        pub open_unchecked : checked_but (length l / 512) l ≡ false → open_of l ≡ Err StoreCheck
         unfolding open_of
         open_unchecked c = rw (eq-eqb (length l % 512) 0 e, le-ltb (length l / 512) 2 low, le-ltb 4_096 (length l / 512) high, c)
 
@@ -142,14 +145,14 @@ module _ (l : List ℕ) where
           unfolding open_of history_of
           judge = rw (eq-eqb (length l % 512) 0 e, le-ltb (length l / 512) 2 low, le-ltb 4_096 (length l / 512) high, c)
 
-          passes : (t : Bool) (h : Header) → opened_by (cond (not t) (some 3) none) h ≡ cond t (Open h) (Refused StoreLayout)
+          passes : (t : Bool) (h : Header) → opened_by (cond (not t) (some 3) none) h ≡ cond t (Ok h) (Err StoreLayout)
           passes true h = refl
           passes false h = refl
 
-          unlawful : lawful_but n l ≡ false → open_of l ≡ Refused StoreLayout
-          unlawful o = judge ∙ passes (lawful_but n l) (head_of (blocks_of n (bare_in n l))) ∙ ap (λ (t : Bool). cond t (Open (head_of (blocks_of n (bare_in n l)))) (Refused StoreLayout)) o
+          unlawful : lawful_but n l ≡ false → open_of l ≡ Err StoreLayout
+          unlawful o = judge ∙ passes (lawful_but n l) (head_of (blocks_of n (bare_in n l))) ∙ ap (λ (t : Bool). cond t (Ok (head_of (blocks_of n (bare_in n l)))) (Err StoreLayout)) o
 
-          pub open_unshaped : shaped_in (length l / 512) l ≡ false → open_of l ≡ Refused StoreLayout
+          pub open_unshaped : shaped_in (length l / 512) l ≡ false → open_of l ≡ Err StoreLayout
           open_unshaped s = unlawful (unshaped n l s)
 
           module _ (s : shaped_in (length l / 512) l ≡ true) where
@@ -178,31 +181,31 @@ module _ (l : List ℕ) where
                 swap true false false = refl
                 swap false y z = refl
 
-            opened : open_of l ≡ cond (judged (n - stem_in n l) W && marks_ok (marks (log_all B))) (Open (head_of B)) (Refused StoreLayout)
+            opened : open_of l ≡ cond (judged (n - stem_in n l) W && marks_ok (marks (log_all B))) (Ok (head_of B)) (Err StoreLayout)
             opened =
                 judge ∙ passes (lawful_but n l) (head_of (blocks_of n (bare_in n l)))
-                ∙ ap₂ (λ (t : Bool) (x : List Block). cond t (Open (head_of x)) (Refused StoreLayout)) lawful_is (bare-stem n l size c S)
+                ∙ ap₂ (λ (t : Bool) (x : List Block). cond t (Ok (head_of x)) (Err StoreLayout)) lawful_is (bare-stem n l size c S)
 
             module _ (some-whole : 1 ≤ whole_in (length l / 512) l) where
               first : blocks_of (whole_in n l) l ≡ parse (lent l 0) ∷ drop 1 (blocks_of (whole_in n l) l)
               first = rest-step (whole_in n l) l 0 (omega arith)
 
-              pub open_unlabelled : (kind_of (parse (lent l 0)) ≡ 1 → ⊥) → open_of l ≡ Refused StoreLayout
+              pub open_unlabelled : (kind_of (parse (lent l 0)) ≡ Label → ⊥) → open_of l ≡ Err StoreLayout
               open_unlabelled k =
                   let R = drop 1 (blocks_of (whole_in n l) l) in
                   let o : ok (bare_blocks (n - stem_in n l) (blocks_of (whole_in n l) l)) ≡ false =
                   ap (λ (x : List Block). ok (bare_blocks (n - stem_in n l) x)) first ∙ stem-other (parse (lent l 0)) R (n - stem_in n l) k in
                   opened ∙ rw o
 
-              module _ (k : kind_of (parse (lent l 0)) ≡ 1) where
+              module _ (k : kind_of (parse (lent l 0)) ≡ Label) where
                 labelled : W ≡ label ∷ drop 1 W
                 labelled = first ∙ ap (λ (x : Block). x ∷ drop 1 W) (parse-label (lent l 0) k)
 
-                pass_judged : passed_all (whole_in n l) l ≡ cond (judged (n - stem_in n l) W) (Open (head_of B)) (Refused StoreLayout)
+                pass_judged : passed_all (whole_in n l) l ≡ cond (judged (n - stem_in n l) W) (Ok (head_of B)) (Err StoreLayout)
                 unfolding passed_all
                 pass_judged =
                     ap (λ (x : List Block). passed (bytes_at x) 1 0 (replicate 32 0 ∷ []) (drop 1 W)) labelled ∙ judged_passed (n - stem_in n l) (drop 1 W)
-                    ∙ sym (ap (λ (x : List Block). cond (judged (n - stem_in n l) x) (Open (head_of (bare_blocks (n - stem_in n l) x))) (Refused StoreLayout)) labelled)
+                    ∙ sym (ap (λ (x : List Block). cond (judged (n - stem_in n l) x) (Ok (head_of (bare_blocks (n - stem_in n l) x))) (Err StoreLayout)) labelled)
 
                 module _ (j : judged (n - stem_in n l) W ≡ true) where
                   alone : Alone (stem W) B
@@ -215,10 +218,10 @@ module _ (l : List ℕ) where
                   used_are = ap (λ (x : ℕ). blocks_of x l) alone.used ∙ stem-taken (whole_in n l) l
 
                 -- what the test of all marks together asks
-                pub open_laid : whole_in (length l / 512) l ≤ length l / 512 → (h : Header) → passed_all (whole_in (length l / 512) l) l ≡ Open h → Laid l h.used
+                pub open_laid : whole_in (length l / 512) l ≤ length l / 512 → (h : Header) → passed_all (whole_in (length l / 512) l) l ≡ Ok h → Laid l h.used
                 open_laid w h e = go (judged (n - stem_in n l) W) refl (sym pass_judged ∙ e)
                   where
-                    go : (t : Bool) → judged (n - stem_in n l) W ≡ t → cond t (Open (head_of B)) (Refused StoreLayout) ≡ Open h → Laid l h.used
+                    go : (t : Bool) → judged (n - stem_in n l) W ≡ t → cond t (Ok (head_of B)) (Err StoreLayout) ≡ Ok h → Laid l h.used
                     go false j q = let z : ◌≡◌ {A = ℕ} 0 1 = cc in absurd (omega arith)
                     go true j q =
                         let u : head_of B ≡ h = cc in
@@ -229,12 +232,12 @@ module _ (l : List ℕ) where
                 open_marked = ap (marked_of l) pass_judged ∙ go (judged (n - stem_in n l) W) refl ∙ sym opened
                   where
                     go : (t : Bool) → judged (n - stem_in n l) W ≡ t
-                        → marked_of l (cond t (Open (head_of B)) (Refused StoreLayout)) ≡ cond (t && marks_ok (marks (log_all B))) (Open (head_of B)) (Refused StoreLayout)
+                        → marked_of l (cond t (Ok (head_of B)) (Err StoreLayout)) ≡ cond (t && marks_ok (marks (log_all B))) (Ok (head_of B)) (Err StoreLayout)
                     go false j = refl
-                    go true j = ap (λ (g : Log). cond (marks_ok (marks g)) (Open (head_of B)) (Refused StoreLayout)) (ap log_all (used_are j) ∙ (alone j).log)
+                    go true j = ap (λ (g : Log). cond (marks_ok (marks g)) (Ok (head_of B)) (Err StoreLayout)) (ap log_all (used_are j) ∙ (alone j).log)
 
         -- no block but zero ones
-        pub open_none : filled_in (length l / 512) l ≡ 0 → open_of l ≡ Refused StoreLayout
+        pub open_none : filled_in (length l / 512) l ≡ 0 → open_of l ≡ Err StoreLayout
         open_none f =
             let w : whole_in n l ≡ 0 = none-whole n l f in
             let c : checked_but n l ≡ true = none-checked n l f in
@@ -242,6 +245,52 @@ module _ (l : List ℕ) where
             let o : ok (bare_blocks (n - stem_in n l) (blocks_of (whole_in n l) l)) ≡ false =
             ap (λ (k : ℕ). ok (bare_blocks (n - stem_in n l) (blocks_of k l))) w ∙ none_bare (n - stem_in n l) l in
             opened c s ∙ rw o
+
+-- a size that is no store's
+pub open_short : (l : List ℕ) → (length l % 512 ≡ 0 → ⊥) ⊎ (((length l % 512 ≡ 0) × (length l / 512 < 2)) ⊎ ((length l % 512 ≡ 0) × (2 ≤ length l / 512) × (4_096 < length l / 512)))
+    → open_of l ≡ Err StoreLength
+open_short l (inl n) = open_odd l n
+open_short l (inr (inl h)) = open_small l h.0 h.1
+open_short l (inr (inr h)) = open_large l h.0 h.1 h.2
+
+-- the same, over what the code knows: the f blocks up to the last that is not all zero have right checks but for the last, and m of them are whole
+pub record Sealed (l : List ℕ) (m : ℕ) : Type 0 where
+  pub even : length l % 512 ≡ 0
+  pub low : 2 ≤ length l / 512
+  pub high : length l / 512 ≤ 4_096
+  pub checks : checked_but (length l / 512) l ≡ true
+  pub whole : m ≡ whole_in (length l / 512) l
+  pub some-whole : 1 ≤ m
+  pub most : m ≤ length l / 512
+
+pub sealed : (l : List ℕ) {f k m : ℕ} → length l % 512 ≡ 0 → 2 ≤ length l / 512 → length l / 512 ≤ 4_096
+    → (f ≡ filled_in (length l / 512) l) × (f ≤ length l / 512) → (k ≡ counted_by f) × (k ≤ f) → checked k l ≡ true → (m ≡ whole_by f l) × (1 ≤ m) × (m ≤ f) → Sealed l m
+sealed l {f} {k} {m} e lo hi F K C M =
+    record { even = e; low = lo; high = hi; checks = sym (counted_is (length l / 512) f k l F.0 K.0) ∙ C; whole = whole_is (length l / 512) f m l F.0 M.0; some-whole = M.1; most = omega (arith, F.1, M.2) }
+
+module _ {l : List ℕ} {m : ℕ} (S : Sealed l m) where
+  shapes : (b : Bool) → all (shaped fields_of parse fits_block) (parts m l) ≡ b → shaped_in (length l / 512) l ≡ b
+  shapes b s = ap (λ (x : ℕ). all (shaped fields_of parse fits_block) (parts x l)) (sym S.whole) ∙ s
+
+  pub unshaped_open : all (shaped fields_of parse fits_block) (parts m l) ≡ false → open_of l ≡ Err StoreLayout
+  unshaped_open s = open_unshaped l S.even S.low S.high S.checks (shapes false s)
+
+  module _ (s : all (shaped fields_of parse fits_block) (parts m l) ≡ true) where
+    some-here : 1 ≤ whole_in (length l / 512) l
+    some-here = subst (λ (x : ℕ). 1 ≤ x) S.whole S.some-whole
+
+    pub unlabelled_open : (kind_of (parse (take 512 l)) ≡ Label → ⊥) → open_of l ≡ Err StoreLayout
+    unlabelled_open k = open_unlabelled l S.even S.low S.high S.checks (shapes true s) some-here k
+
+    module _ (k : kind_of (parse (take 512 l)) ≡ Label) where
+      pub laid_open : (h : Header) → passed_all m l ≡ Ok h → Laid l h.used
+      laid_open h e =
+          open_laid l S.even S.low S.high S.checks (shapes true s) some-here k (subst (λ (x : ℕ). x ≤ length l / 512) S.whole S.most) h
+          (ap (λ (x : ℕ). passed_all x l) (sym S.whole) ∙ e)
+
+      pub marked_open : marked_of l (passed_all m l) ≡ open_of l
+      marked_open =
+          ap (λ (x : ℕ). marked_of l (passed_all x l)) S.whole ∙ open_marked l S.even S.low S.high S.checks (shapes true s) some-here k
 
 -- the first block is the label
 first_plain : (bs : List Block) → ok bs ≡ true → is_mark (get_or bs 0 blank) ≡ false
@@ -254,14 +303,16 @@ first_plain (mark x ∷ bs) q = let z : ◌≡◌ {A = ℕ} 0 1 = cc in absurd (
 first_plain (blank ∷ bs) q = refl
 
 -- where the pass met no mark, they go together
-pub open_plain : (l : List ℕ) {o : Passed} {h : Header} → o ≡ Plain h → ((x : Header) → opened_as o ≡ Open x → Laid l x.used) → Markless l o → Open h ≡ marked_of l (opened_as o)
+pub open_plain : (l : List ℕ) {o : Result Passed Refusal} {h : Header} → o ≡ Ok (Plain h) → ((x : Header) → opened_as o ≡ Ok x → Laid l x.used) → Markless l o
+    → Ok h ≡ marked_of l (opened_as o)
 open_plain l {o} {h} e f m =
     let L : Laid l h.used = f h (ap opened_as e) in
-    let M : Markless l (Plain h) = subst (Markless l) e m in
-    ap (λ (t : Bool). cond t (Open h) (Refused StoreLayout)) (markless l h.used L (λ p g. none_here p (omega (arith, length-blocks h.used l)) L M)) ∙ sym (ap (λ (x : Passed). marked_of l (opened_as x)) e)
+    let M : Markless l (Ok (Plain h)) = subst (Markless l) e m in
+    ap (λ (t : Bool). cond t (Ok h) (Err StoreLayout)) (markless l h.used L (λ p g. none_here p (omega (arith, length-blocks h.used l)) L M))
+    ∙ sym (ap (λ (x : Result Passed Refusal). marked_of l (opened_as x)) e)
   where
     -- the label, or a block that is no mark
-    none_here : (p : ℕ) → p < h.used → Laid l h.used → Markless l (Plain h) → is_mark (get_or (blocks_of h.used l) p blank) ≡ false
+    none_here : (p : ℕ) → p < h.used → Laid l h.used → Markless l (Ok (Plain h)) → is_mark (get_or (blocks_of h.used l) p blank) ≡ false
     none_here zero g L M = first_plain (blocks_of h.used l) L.laid
     none_here (suc p) g L M = ap is_mark (block_at h.used (suc p) l g ∙ ap parse (lent_is l (suc p))) ∙ M (suc p) (omega arith) g
 

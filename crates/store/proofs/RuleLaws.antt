@@ -3,33 +3,25 @@
 use Prim.Native.Nat.{◌*◌, ◌+◌, ◌<◌, ◌≤◌, suc, zero, ℕ}
 use mathlib.Core.Bool.{◌&&◌, false, not, or-false, or-true, true}
 use mathlib.Core.List.{List, [], ◌++◌, ◌∷◌}
-use mathlib.Core.Logic.{inl, inr}
+use mathlib.Core.Logic.{inl, inr, ◌⊎◌}
 use mathlib.Core.Path.{◌∙◌, ◌≡◌, ap, refl, subst, sym}
 use native.Mathlib.Numerals.{add-one}
 use native.Mathlib.Omega.{arith}
 use borrow.Author.Tests.{eq-eqb, le-leb, le-ltb, lt-leb, lt-ltb, ne_eqb}
-use lib.Dec.{T, eqb}
 use lib.ListN.{get_or-append, get_or-eq_default, drop, get_or, length, length-append, length-take}
-use lib.Seq.{get_or-append-add, get_or-drop}
-use Rattle.block.proofs.Says.{eq_or, says-and, says-le, says-lt}
+use lib.Seq.{get_or-append-add}
+use Rattle.block.proofs.Says.{eq_or}
 use Rattle.block.specs.Field.{two_at}
 use Rattle.block.specs.Lists.{same}
 use Rattle.model.specs.Blocks.{Line, action_of, parse_line}
 use Rattle.model.specs.Layout.{Table, latest}
 use Rattle.model.specs.Pass.{rule}
-use Rattle.laws.proofs.Rows.{cond_same}
 use Rattle.laws.proofs.Tables.{latest_snoc}
-use Rattle.shape.proofs.LineLaws.{block_of, sheet_of}
 use Rattle.shape.proofs.RowLaws.{row_at}
 use Rattle.shape.specs.Rows.{row_of, rows_of}
 use Rattle.store.specs.Rule.{copy_rule, own_of, plain_rule}
 use Rattle.store.specs.declared.Change.{Change}
 use Rattle.store.specs.declared.Spot.{Spot}
-
-pub plain-absent : (w : Spot) (c : Change) → (c.action ≡ 1 → ⊥) → c.old ≡ 0 → plain_rule w c ≡ false
-unfolding plain_rule
-plain-absent w c n e =
-    rw (ne_eqb c.action 1 n, eq-eqb c.old 0 e) (cond_same (eqb c.action 2) false)
 
 -- ---- rows: the flat table against the list of tables
 
@@ -104,39 +96,28 @@ module _ (look : ℕ → List ℕ) (w : Spot) (c : Change) where
             (or-false (own_of w.at w.k c.block && not (same (look c.block) (look used))))
 
 -- the source's block, read off the flat table
-pub from_row : (look : ℕ → List ℕ) (w : Spot) (c : Change) (tab : List ℕ) → c.revision ≤ w.last → c.source < 32
-    → copy_rule look w c (get_or (get_or (rows_of (w.last + 1) tab) c.revision []) c.source 0) ≡ copy_rule look w c (get_or tab (32 * c.revision + c.source) 0)
-from_row look w c tab h g = ap (copy_rule look w c) (used_at (w.last + 1) c.revision c.source tab (omega arith) g)
+pub from_row : (look : ℕ → List ℕ) (w : Spot) (c : Change) (tab : List ℕ) (used : ℕ) → used ≡ get_or tab (32 * c.revision + c.source) 0 → c.revision ≤ w.last → c.source < 32
+    → copy_rule look w c (get_or (get_or (rows_of (w.last + 1) tab) c.revision []) c.source 0) ≡ copy_rule look w c used
+from_row look w c tab used e h g = ap (copy_rule look w c) (used_at (w.last + 1) c.revision c.source tab (omega arith) g ∙ sym e)
 
-pub own_below : (at k p : ℕ) → own_of at k p ≡ true → p < at + k
-own_below at k p e = ((says-and (says-le at p) (says-lt p (at + k))).true_so (subst T (sym e) tt)).1
+-- no copy of a sheet that is there, or from a revision or a sheet that is not
+pub copy-none : (look : ℕ → List ℕ) (w : Spot) (c : Change) (tab : List ℕ)
+    → (c.old ≡ 0 → ⊥) ⊎ (((c.old ≡ 0) × (c.revision < 1)) ⊎ (((c.old ≡ 0) × (1 ≤ c.revision) × (w.last < c.revision)) ⊎ ((c.old ≡ 0) × (1 ≤ c.revision) × (c.revision ≤ w.last) × (32 ≤ c.source))))
+    → copy_rule look w c (get_or (get_or (rows_of (w.last + 1) tab) c.revision []) c.source 0) ≡ false
+copy-none look w c tab (inl n) = copy-present look w c _ n
+copy-none look w c tab (inr (inl h)) = copy-early look w c _ h.0 h.1
+copy-none look w c tab (inr (inr (inl h))) = copy_late look w c h.0 h.1 _ h.2
+copy-none look w c tab (inr (inr (inr h))) = copy-lacking look w c h.0 h.1 h.2 _ (used_past (w.last + 1) c.revision c.source tab (omega (arith, h.2)) h.3)
 
 -- ---- the change
 
 abbrev pub line_of : ℕ → ℕ → ℕ → ℕ → ℕ → Line
 line_of sheet action block source revision = record { sheet = sheet; action = action_of action; block = block; source = source; revision = revision }
 
-pub line_is : (b : List ℕ) (o : ℕ)
-    → parse_line (drop o b) ≡ line_of (get_or b o 0) (get_or b (o + 1) 0) (two_at b (o + 2)) (get_or b (o + 4) 0) (two_at b (o + 6))
-line_is b o =
-    let e : o + 7 ≡ suc (o + 6) = omega arith in
-    let v : two_at (drop o b) 6 ≡ two_at b (o + 6) = rw (get_or-drop o b 6 0, get_or-drop o b 7 0, e) in
-    λ i. record {
-      sheet = sheet_of b o i;
-      action = action_of (get_or-drop o b 1 0 i);
-      block = block_of b o i;
-      source = get_or-drop o b 4 0 i;
-      revision = v i;
-    }
-
 abbrev pub changed : ℕ → ℕ → ℕ → ℕ → ℕ → Change
 changed action old block source revision = record { action = action; old = old; block = block; source = source; revision = revision }
 
 module _ (look : ℕ → List ℕ) (w : Spot) (tables : List Table) (sheet block source revision : ℕ) where
-  pub rule_past : (action : ℕ) → 32 ≤ sheet → rule look w.at w.k tables (line_of sheet action block source revision) ≡ false
-  unfolding rule
-  rule_past action h = rw (le-ltb sheet 32 h)
-
   rule-plain : (action : ℕ) → sheet < 32 → 0 < action → action < 4
       → rule look w.at w.k tables (line_of sheet action block source revision) ≡ plain_rule w (changed action (get_or (latest tables) sheet 0) block source revision)
   unfolding rule plain_rule
@@ -153,25 +134,25 @@ module _ (look : ℕ → List ℕ) (w : Spot) (tables : List Table) (sheet block
   rule-copy action e h n₁ n₂ n₃ = rw (ne_eqb action 1 n₁, ne_eqb action 2 n₂, ne_eqb action 3 n₃, lt-ltb sheet 32 h, e)
 
 -- what the code has read of a change, and what it answers
-module _ (look : ℕ → List ℕ) (w : Spot) (tab b : List ℕ) (o old block source revision : ℕ)
-    (eo : old ≡ get_or tab (32 * w.last + get_or b o 0) 0) (eb : block ≡ two_at b (o + 2)) (es : source ≡ get_or b (o + 4) 0) (er : revision ≡ two_at b (o + 6))
-    (h : get_or b o 0 < 32) where
-  line : parse_line (drop o b) ≡ line_of (get_or b o 0) (get_or b (o + 1) 0) block source revision
-  line = line_is b o ∙ rw (eb, es, er)
+module _ (look : ℕ → List ℕ) (w : Spot) (tab b : List ℕ) (old block source revision : ℕ)
+    (eo : old ≡ get_or tab (32 * w.last + get_or b 0 0) 0) (eb : block ≡ two_at b 2) (es : source ≡ get_or b 4 0) (er : revision ≡ two_at b 6)
+    (h : get_or b 0 0 < 32) where
+  line : parse_line b ≡ line_of (get_or b 0 0) (get_or b 1 0) block source revision
+  line = rw (eb, es, er)
 
-  olds : get_or (latest (rows_of (w.last + 1) tab)) (get_or b o 0) 0 ≡ old
-  olds = old_at w.last (get_or b o 0) tab h ∙ sym eo
+  olds : get_or (latest (rows_of (w.last + 1) tab)) (get_or b 0 0) 0 ≡ old
+  olds = old_at w.last (get_or b 0 0) tab h ∙ sym eo
 
-  pub plain-answer : 0 < get_or b (o + 1) 0 → get_or b (o + 1) 0 < 4
-      → plain_rule w (changed (get_or b (o + 1) 0) old block source revision) ≡ rule look w.at w.k (rows_of (w.last + 1) tab) (parse_line (drop o b))
+  pub plain-answer : 0 < get_or b 1 0 → get_or b 1 0 < 4
+      → plain_rule w (changed (get_or b 1 0) old block source revision) ≡ rule look w.at w.k (rows_of (w.last + 1) tab) (parse_line b)
   plain-answer g l =
-      sym (ap (rule look w.at w.k (rows_of (w.last + 1) tab)) line ∙ rule-plain look w (rows_of (w.last + 1) tab) (get_or b o 0) block source revision (get_or b (o + 1) 0) h g l
-      ∙ ap (λ (x : ℕ). plain_rule w (changed (get_or b (o + 1) 0) x block source revision)) olds)
+      sym (ap (rule look w.at w.k (rows_of (w.last + 1) tab)) line ∙ rule-plain look w (rows_of (w.last + 1) tab) (get_or b 0 0) block source revision (get_or b 1 0) h g l
+      ∙ ap (λ (x : ℕ). plain_rule w (changed (get_or b 1 0) x block source revision)) olds)
 
-  pub copy-answer : (get_or b (o + 1) 0 ≡ 1 → ⊥) → (get_or b (o + 1) 0 ≡ 2 → ⊥) → (get_or b (o + 1) 0 ≡ 3 → ⊥)
-      → copy_rule look w (changed (get_or b (o + 1) 0) old block source revision) (get_or (get_or (rows_of (w.last + 1) tab) revision []) source 0)
-      ≡ rule look w.at w.k (rows_of (w.last + 1) tab) (parse_line (drop o b))
+  pub copy-answer : (get_or b 1 0 ≡ 1 → ⊥) → (get_or b 1 0 ≡ 2 → ⊥) → (get_or b 1 0 ≡ 3 → ⊥)
+      → copy_rule look w (changed (get_or b 1 0) old block source revision) (get_or (get_or (rows_of (w.last + 1) tab) revision []) source 0)
+      ≡ rule look w.at w.k (rows_of (w.last + 1) tab) (parse_line b)
   copy-answer n₁ n₂ n₃ =
       sym (ap (rule look w.at w.k (rows_of (w.last + 1) tab)) line
-      ∙ rule-copy look w (rows_of (w.last + 1) tab) (get_or b o 0) block source revision (get_or b (o + 1) 0) (length-rows (w.last + 1) tab) h n₁ n₂ n₃
-      ∙ ap (λ (x : ℕ). copy_rule look w (changed (get_or b (o + 1) 0) x block source revision) (get_or (get_or (rows_of (w.last + 1) tab) revision []) source 0)) olds)
+      ∙ rule-copy look w (rows_of (w.last + 1) tab) (get_or b 0 0) block source revision (get_or b 1 0) (length-rows (w.last + 1) tab) h n₁ n₂ n₃
+      ∙ ap (λ (x : ℕ). copy_rule look w (changed (get_or b 1 0) x block source revision) (get_or (get_or (rows_of (w.last + 1) tab) revision []) source 0)) olds)

@@ -1,6 +1,6 @@
 -- What opening a store answers, and what the forward pass answers on the way.
 -- Assumes nothing.
-use Rattle.std.specs.Prelude.{◌*◌, ◌+◌, ◌-◌, ◌<◌, ◌≤◌, suc, ℕ, Bool, ◌&&◌, cond, false, List, [], ◌∷◌, eqb, leb, ◌≡◌, drop, length, replicate, take}
+use Rattle.std.specs.Prelude.{◌*◌, ◌+◌, ◌-◌, ◌<◌, ◌≤◌, suc, ℕ, Bool, ◌&&◌, cond, false, List, [], ◌∷◌, eqb, leb, ◌≡◌, drop, length, replicate, take, Err, Ok, Result}
 use Rattle.std.proofs.Math.Option.{Option, none, some}
 use Rattle.model.specs.Blocks.{Block, blank, bytes_at, commit, content, label, mark, parse}
 use Rattle.model.specs.Calls.{store_conditions}
@@ -14,21 +14,19 @@ use Rattle.model.specs.declared.Refusal.{Refusal}
 use Rattle.model.specs.declared.Refusal.TheVariants.{StoreCheck, StoreLayout, StoreLength}
 use Rattle.marks.specs.Revisions.{is_mark}
 use Rattle.store.specs.declared.Header.{Header}
-use Rattle.store.specs.declared.Opened.{Opened}
-use Rattle.store.specs.declared.Opened.TheVariants.{Open, Refused}
 use Rattle.store.specs.declared.Passed.{Passed}
-use Rattle.store.specs.declared.Passed.TheVariants.{Marked, Plain, Refused as NotPassed}
+use Rattle.store.specs.declared.Passed.TheVariants.{Marked, Plain}
 
 -- the refusals 1, 2 and 3
 abbrev pub refusal_as : ℕ → Refusal
 refusal_as n = cond (eqb n 1) StoreLength (cond (eqb n 2) StoreCheck StoreLayout)
 
-abbrev pub opened_by : Option ℕ → Header → Opened
-opened_by none h = Open h
-opened_by (some n) h = Refused (refusal_as n)
+abbrev pub opened_by : Option ℕ → Header → Result Header Refusal
+opened_by none h = Ok h
+opened_by (some n) h = Err (refusal_as n)
 
 -- the first refusal in the document's order, or the last revision and U
-unfoldable pub open_of : Bytes → Opened
+unfoldable pub open_of : Bytes → Result Header Refusal
 open_of store = opened_by (first_of (store_conditions store)) (record { last = last (store_history store); used = used_of store })
 
 -- the pass over the blocks that are left: no zero block stands among them, and content blocks that no commit follows are 32 at most. Each mark is tested by itself
@@ -51,32 +49,32 @@ reached at k (mark m ∷ bs) = reached (suc at) 0 bs
 reached at k (blank ∷ bs) = at
 
 -- what the forward pass answers, from a commit's first block `at` with k content blocks passed, the trees' tables, and the blocks that are left
-unfoldable pub passed : (ℕ → List ℕ) → ℕ → ℕ → List Table → List Block → Opened
+unfoldable pub passed : (ℕ → List ℕ) → ℕ → ℕ → List Table → List Block → Result Header Refusal
 passed look at k tables bs =
     cond (ok_tail look at k tables bs)
-    (Open (record { last = length tables - 1 + length (read_from look bs); used = reached at k bs }))
-    (Refused StoreLayout)
+    (Ok (record { last = length tables - 1 + length (read_from look bs); used = reached at k bs }))
+    (Err StoreLayout)
 
-unfoldable pub passed_all : ℕ → List ℕ → Opened
+unfoldable pub passed_all : ℕ → List ℕ → Result Header Refusal
 passed_all n l = passed (bytes_at (blocks_of n l)) 1 0 (replicate 32 0 ∷ []) (drop 1 (blocks_of n l))
 
 -- the same, whether there are marks or not
-abbrev pub opened_as : Passed → Opened
-opened_as (NotPassed k) = Refused k
-opened_as (Plain h) = Open h
-opened_as (Marked h) = Open h
+abbrev pub opened_as : Result Passed Refusal → Result Header Refusal
+opened_as (Err k) = Err k
+opened_as (Ok (Plain h)) = Ok h
+opened_as (Ok (Marked h)) = Ok h
 
 -- no used block after the label is a mark, where that is said
-abbrev pub Markless : Bytes → Passed → Type 0
-Markless store (NotPassed k) = Unit {0}
-Markless store (Plain h) = (p : ℕ) → 1 ≤ p → p < h.used → is_mark (parse (take 512 (drop (p * 512) store))) ≡ false
-Markless store (Marked h) = Unit {0}
+abbrev pub Markless : Bytes → Result Passed Refusal → Type 0
+Markless store (Err k) = Unit {0}
+Markless store (Ok (Plain h)) = (p : ℕ) → 1 ≤ p → p < h.used → is_mark (parse (take 512 (drop (p * 512) store))) ≡ false
+Markless store (Ok (Marked h)) = Unit {0}
 
-pub record PassedAs (n : ℕ) (store : Bytes) (x : Passed) : Type 0 where
+pub record PassedAs (n : ℕ) (store : Bytes) (x : Result Passed Refusal) : Type 0 where
   pub is : opened_as x ≡ passed_all n store
   pub markless : Markless store x
 
 -- an answer of the pass, with the test of all marks of the used blocks together
-abbrev pub marked_of : Bytes → Opened → Opened
-marked_of store (Refused k) = Refused k
-marked_of store (Open h) = cond (marks_ok (marks (log_all (blocks_of h.used store)))) (Open h) (Refused StoreLayout)
+abbrev pub marked_of : Bytes → Result Header Refusal → Result Header Refusal
+marked_of store (Err k) = Err k
+marked_of store (Ok h) = cond (marks_ok (marks (log_all (blocks_of h.used store)))) (Ok h) (Err StoreLayout)

@@ -1,6 +1,6 @@
 -- Where the tail of an accepted store stands: none of its blocks is all zero, and those after it are.
 -- Assumes nothing.
-use Prim.Native.Nat.{◌*◌, ◌+◌, ◌-◌, ◌<◌, ◌≤◌, suc, zero, ℕ}
+use Prim.Native.Nat.{◌*◌, ◌+◌, ◌-◌, ◌/◌, ◌<◌, ◌≤◌, suc, zero, ℕ}
 use mathlib.Core.Bool.{Bool, false, not, true}
 use mathlib.Core.List.{List, [], ◌++◌, ◌∷◌, append_assoc, append-nil, map}
 use mathlib.Core.Logic.{inl, inr}
@@ -8,14 +8,15 @@ use mathlib.Core.Path.{◌∙◌, ◌≡◌, ap, refl, subst, sym}
 use native.Mathlib.Omega.{arith}
 use borrow.Author.Tests.{eq-eqb, ne_eqb}
 use lib.Dec.{eqb}
-use lib.ListN.{get_or, length, length-append, length-map, replicate, take}
-use lib.Seq.{take_at}
+use lib.ListN.{drop, get_or, length, length-append, length-drop, length-map, replicate, take}
+use lib.Seq.{drop-drop, take_at}
+use Rattle.std.specs.List.{prefix_len}
 use Rattle.block.proofs.Says.{eq_or, lt_or_ge}
 use Rattle.block.specs.Buffer.{block_at}
 use Rattle.block.specs.Check.{is_zero}
 use Rattle.block.specs.Lists.{All}
 use Rattle.model.specs.Blocks.{Block, blank, content, fields_of}
-use Rattle.model.specs.Codec.{joined}
+use Rattle.model.specs.Codec.{joined, parts}
 use Rattle.model.specs.History.{Bytes, History, last}
 use Rattle.model.specs.Pass.{is_blank}
 use Rattle.model.specs.Store.{bare_in, bare_of, blank_from, block_count, blocks_of, front, store_history, tail_of}
@@ -88,57 +89,62 @@ module _ (N : ℕ) (store : Bytes) (h : History) (used t : ℕ) (X : Tailed N st
       ap (λ (k : ℕ). take (512 * (used + t)) store ++ replicate {A = ℕ} k 0) z
       ∙ ap (λ (x : List ℕ). take (512 * (used + t)) x ++ zs) s ∙ ap (λ (x : List ℕ). x ++ zs) (take_at A zs (512 * (used + t)) n) ∙ sym s
 
+-- ---- the parts from the first on that are not zero
+
+counted : (n t : ℕ) (l : List ℕ) → t ≤ n → ((p : ℕ) → p < t → is_zero (block_at l p) ≡ false) → (t < n → is_zero (block_at l t) ≡ true)
+    → prefix_len (λ b. not (is_zero b)) (parts n l) ≡ t
+counted zero t l h f z = omega arith
+counted (suc n) zero l h f z = rw (z (omega arith))
+counted (suc n) (suc t) l h f z =
+    let at : (p : ℕ) → block_at (drop 512 l) p ≡ block_at l (suc p) = λ p.
+    let k : 512 + 512 * p ≡ 512 * suc p = omega arith in ap (take 512) (drop-drop (512 * p) 512 l) ∙ ap (λ (x : ℕ). take 512 (drop x l)) k in
+    let rest = counted n t (drop 512 l) (omega arith) (λ p b. ap is_zero (at p) ∙ f (suc p) (omega arith)) (λ b. ap is_zero (at t) ∙ z (omega arith)) in
+    rw (f 0 (omega arith)) (ap (λ (k : ℕ). 1 + k) rest ∙ omega arith)
+
 -- ---- an accepted store
 
 module _ (store : Bytes) (used : ℕ) (T : Taken store used) where
   X : Tailed (block_count store) store (store_history store) used (tail_of store)
   X = subst (λ (u : ℕ). Tailed (block_count store) store (store_history store) u (tail_of store)) (sym T.in_use) (taken_tailed store T.clear)
 
-  pub tail-room : used + tail_of store ≤ block_count store
-  tail-room = X.room
+  pub tail_room : used + tail_of store ≤ block_count store
+  tail_room = X.room
 
-  pub tail-stops : (t : ℕ) → t ≤ tail_of store → used + t < block_count store → is_zero (block_at store (used + t)) ≡ true → t ≡ tail_of store
-  tail-stops t low g z =
-      elim (eq_or t (tail_of store)) [
-        | inl e ↦ e
-        | inr o ↦
-            let f = tail-there (block_count store) store (store_history store) used (tail_of store) X t (omega arith) in
-            let w : ◌≡◌ {A = ℕ} 0 1 = cc (f, z) in
-            absurd (omega arith)
-      ]
+  stands : (p : ℕ) → p < tail_of store → is_zero (block_at store (used + p)) ≡ false
+  stands p h = tail-there (block_count store) store (store_history store) used (tail_of store) X p h
 
-  pub tail_goes : (t : ℕ) → t ≤ tail_of store → used + t < block_count store → is_zero (block_at store (used + t)) ≡ false → t + 1 ≤ tail_of store
-  tail_goes t low g z =
-      elim (eq_or t (tail_of store)) [
-        | inl e ↦
-            let f = tail_past (block_count store) store (store_history store) used (tail_of store) X t (omega arith) g in
-            let w : ◌≡◌ {A = ℕ} 0 1 = cc (f, z) in
-            absurd (omega arith)
-        | inr o ↦ omega arith
-      ]
+  ends : used + tail_of store < block_count store → is_zero (block_at store (used + tail_of store)) ≡ true
+  ends h = tail_past (block_count store) store (store_history store) used (tail_of store) X (tail_of store) (omega arith) h
 
   -- whether there is one
   pub tail_none : block_count store ≤ used → false ≡ not (eqb (tail_of store) 0)
-  tail_none g = sym (rw (eq-eqb (tail_of store) 0 (omega (arith, tail-room))))
+  tail_none g = sym (rw (eq-eqb (tail_of store) 0 (omega (arith, tail_room))))
 
-  pub tail-some : used < block_count store → {z : Bool} → z ≡ is_zero (block_at store used) → not z ≡ not (eqb (tail_of store) 0)
-  tail-some g {z} e = ap not (go z refl)
-    where
-      k : used + 0 ≡ used
-      k = omega arith
+  pub tail_some : used < block_count store → {z : Bool} → z ≡ is_zero (block_at store used) → not z ≡ not (eqb (tail_of store) 0)
+  tail_some g {z} e =
+      elim (eq_or (tail_of store) 0) [
+        | inl o ↦
+            let k : used + tail_of store ≡ used = omega arith in
+            rw (eq-eqb (tail_of store) 0 o) (ap not (e ∙ ap (λ (x : ℕ). is_zero (block_at store x)) (sym k) ∙ ends (omega arith)))
+        | inr o ↦
+            let k : used + 0 ≡ used = omega arith in
+            rw (ne_eqb (tail_of store) 0 o) (ap not (e ∙ ap (λ (x : ℕ). is_zero (block_at store x)) (sym k) ∙ stands 0 (omega arith)))
+      ]
 
-      go : (b : Bool) → z ≡ b → b ≡ eqb (tail_of store) 0
-      go true q =
-          let s = tail-stops 0 (omega arith) (omega arith) (ap (λ (x : ℕ). is_zero (block_at store x)) k ∙ sym e ∙ q) in
-          sym (eq-eqb (tail_of store) 0 (sym s))
-      go false q =
-          let s = tail_goes 0 (omega arith) (omega arith) (ap (λ (x : ℕ). is_zero (block_at store x)) k ∙ sym e ∙ q) in
-          sym (ne_eqb (tail_of store) 0 (λ w. omega arith))
+  -- the blocks from block `used` on that are not zero
+  pub tail_counted : (n : ℕ) → n ≡ length (drop (used * 512) store) / 512 → prefix_len (λ b. not (is_zero b)) (parts n (drop (used * 512) store)) ≡ tail_of store
+  tail_counted n e =
+      let rest = drop (used * 512) store in
+      let at : (p : ℕ) → block_at rest p ≡ block_at store (used + p) = λ p.
+      let k : used * 512 + 512 * p ≡ 512 * (used + p) = omega arith in
+      ap (take 512) (drop-drop (512 * p) (used * 512) store) ∙ ap (λ (x : ℕ). take 512 (drop x store)) k in
+      counted n (tail_of store) rest (omega (arith, tail_room, length-drop (used * 512) store))
+      (λ p h. ap is_zero (at p) ∙ stands p h) (λ h. ap is_zero (at (tail_of store)) ∙ ends (omega (arith, length-drop (used * 512) store)))
 
   -- it can be cleared, and then the store is bare
   pub tail_clearable : Clearable store used (tail_of store)
   tail_clearable = record {
-    room = omega (arith, tail-room);
+    room = omega (arith, tail_room);
     rest = blank_past (block_count store) store (store_history store) used (tail_of store) X;
   }
 

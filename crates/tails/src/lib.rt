@@ -10,12 +10,7 @@ pub fn has(store: &[u8], used: usize) -> bool
     requires { Taken store.now used }
     ensures { result ≡ not (eqb (tail_of store.now) 0) }
 {
-    if store.len() / 512 <= used {
-        return false;
-    }
-    let a = used * 512;
-    let e = a + 512;
-    !block::is_zero(&store[a..e])
+    used < store.len() / 512 && !block::is_zero(&store[used * 512..used * 512 + 512])
 }
 
 // How many blocks the tail has.
@@ -23,17 +18,10 @@ pub fn count(store: &[u8], used: usize) -> usize
     requires { Taken store.now used }
     ensures { result ≡ tail_of store.now }
 {
-    let n = store.len() / 512;
-    let mut t: usize = 0;
-    while used + t < n {
-        let a = (used + t) * 512;
-        let e = a + 512;
-        if block::is_zero(&store[a..e]) {
-            return t;
-        }
-        t += 1;
-    }
-    t
+    store[used * 512..]
+        .chunks_exact(512)
+        .take_while(|b| !block::is_zero(b))
+        .count()
 }
 
 // Clears the `count` blocks from block `used` on, from the highest down, and stops after n of them: whether all are cleared.
@@ -41,17 +29,9 @@ pub fn clear(store: &mut [u8], used: usize, count: usize, n: usize) -> bool
     requires { Clearable store.old used count }
     ensures { (result ≡ leb count n) × (store.new ≡ blank_from (used + (count - n)) store.old) }
 {
-    let mut p = used + count;
-    let mut left = n;
-    while used < p {
-        if left == 0 {
-            return false;
-        }
-        p -= 1;
-        let a = p * 512;
-        let e = a + 512;
-        block::clear(store, a, e);
-        left -= 1;
+    for p in (used + count.saturating_sub(n)..used + count).rev() {
+        let at = p * 512;
+        block::clear(store, at, at + 512);
     }
-    true
+    count <= n
 }

@@ -10,34 +10,20 @@ use native.Mathlib.Numerals.{add-one}
 use native.Mathlib.Omega.{arith}
 use borrow.Author.Tests.{eq-eqb, eqb-true, le-leb, le-ltb, leb-false, leb-true, lt-leb, lt-ltb, ltb-true, ne_eqb}
 use lib.Dec.{eqb, leb, ltb}
-use lib.ListN.{drop, drop_of_length-le, get_or, length, length-append, length-drop, set, take}
+use lib.ListN.{drop, drop_of_length-le, get_or, length, length-append, set, take}
 use lib.Seq.{drop-cons, take_at}
+use Rattle.std.specs.List.{list_all}
 use Rattle.block.proofs.Writing.{written_mid, written_none, written_one}
 use Rattle.block.specs.Lists.{all}
 use Rattle.block.specs.Write.{written}
 use Rattle.io.specs.Digits.{last_digits}
-use Rattle.text.specs.Text.{are_pairs, decimal_in, digit_of, glyph_of, hex_of, hex_pairs, hex_text, is_dash, is_digit, number_of, pairs_of, span_of, value_of}
+use Rattle.text.specs.Text.{are_pairs, decimal_in, decimal_of, digit_of, glyph_of, hex_of, hex_pairs, hex_text, is_dash, is_digit, pairs_of, value_of}
 
 pub next : (s : List ℕ) (i : ℕ) → i < length s → drop i s ≡ get_or s i 0 ∷ drop (i + 1) s
 next s i h = rw (add-one, drop-cons s i 0)
 
 pub none_left : (s : List ℕ) (i : ℕ) → length s ≤ i → drop i s ≡ []
 none_left s i h = drop_of_length-le s h
-
--- ---- spans
-
-module _ (b : ℕ) (s : List ℕ) (i : ℕ) where
-  pub span_here : i < length s → get_or s i 0 ≡ b → span_of b (drop i s) ≡ 0
-  unfolding span_of
-  span_here h e = rw (next s i h) (simp (eq-eqb _ _ e))
-
-  pub span_next : i < length s → (get_or s i 0 ≡ b → ⊥) → span_of b (drop i s) ≡ span_of b (drop (i + 1) s) + 1
-  unfolding span_of
-  span_next h e = rw (next s i h) (simp (ne_eqb _ _ e))
-
-  pub span_end : length s ≤ i → span_of b (drop i s) ≡ 0
-  unfolding span_of
-  span_end h = rw (none_left s i h)
 
 -- ---- numbers
 
@@ -50,49 +36,23 @@ module _ (w : List ℕ) (n i d : ℕ) (h : i < length w) (is : d ≡ digit_of (g
   unfolding value_of
   value_large g l = rw (next w i h) (simp (← is, lt-ltb _ _ g, lt-leb _ _ l))
 
-  pub value_next : d < 10 → 10 * n + d ≤ 4_294_967_295 → value_of n (drop i w) ≡ value_of (10 * n + d) (drop (i + 1) w)
+  pub value_next : d < 10 → (m : ℕ) → m ≡ 10 * n + d → m ≤ 4_294_967_295 → value_of m (drop (i + 1) w) ≡ value_of n (drop i w)
   unfolding value_of
-  value_next g l = rw (next w i h) (simp (← is, lt-ltb _ _ g, le-leb _ _ l))
+  value_next g m e l = let k : 10 * n + d ≤ 4_294_967_295 = omega arith in rw e (sym (rw (next w i h) (simp (← is, lt-ltb _ _ g, le-leb _ _ k))))
 
 pub value_end : (w : List ℕ) (n i : ℕ) → length w ≤ i → value_of n (drop i w) ≡ some n
 unfolding value_of
 value_end w n i h = rw (none_left w i h)
 
--- by the length of the word
-pub number-none : (w : List ℕ) → length w ≡ 0 → number_of w ≡ none
-unfolding number_of
-number-none [] h = refl
-number-none (x ∷ w) h = absurd (omega arith)
-
-pub number-one : (w : List ℕ) → length w ≡ 1 → number_of w ≡ value_of 0 w
-unfolding number_of
-number-one [] h = absurd (omega arith)
-number-one (x ∷ []) h = refl
-number-one (x ∷ y ∷ w) h = absurd (omega arith)
-
-pub number-zero : (w : List ℕ) → 1 < length w → get_or w 0 0 ≡ 48 → number_of w ≡ none
-unfolding number_of
-number-zero [] h e = absurd (omega arith)
-number-zero (x ∷ []) h e = absurd (omega arith)
-number-zero (x ∷ y ∷ w) h e = simp (eq-eqb _ _ e)
-
-pub number_more : (w : List ℕ) → 1 < length w → (get_or w 0 0 ≡ 48 → ⊥) → number_of w ≡ value_of 0 w
-unfolding number_of
-number_more [] h e = absurd (omega arith)
-number_more (x ∷ []) h e = absurd (omega arith)
-number_more (x ∷ y ∷ w) h e = simp (ne_eqb _ _ e)
+-- each step of the reading of a number
+pub ruleset value_steps = (value_other, value_large, value_next, value_end)
 
 -- ---- HEX, read
 
-module _ (w : List ℕ) (i d : ℕ) (h : i < length w) (is : d ≡ digit_of (get_or w i 0)) where
-  pub digits_other : 16 ≤ d → all is_digit (drop i w) ≡ false
-  digits_other g = rw (next w i h) (simp (← is, le-ltb _ _ g))
-
-  pub digits_next : d < 16 → all is_digit (drop i w) ≡ all is_digit (drop (i + 1) w)
-  digits_next g = rw (next w i h) (simp (← is, lt-ltb _ _ g))
-
-pub digits_end : (w : List ℕ) (i : ℕ) → length w ≤ i → all is_digit (drop i w) ≡ true
-digits_end w i h = rw (none_left w i h)
+-- `all` of a slice is `all` of its list
+pub digits_all : (w : List ℕ) → list_all is_digit w ≡ all is_digit w
+digits_all [] = refl
+digits_all (x ∷ w) = ap (λ (t : Bool). is_digit x && t) (digits_all w)
 
 pub digit_small : (w : List ℕ) (i : ℕ) → all is_digit w ≡ true → i < length w → digit_of (get_or w i 0) < 16
 digit_small [] i e h = absurd (omega arith)
@@ -103,12 +63,6 @@ digit_small (x ∷ w) i e h = go (is_digit x) refl i e h (digit_small w)
     go false q k f g ih = let z : ◌≡◌ {A = ℕ} 0 1 = cc in absurd (omega arith)
     go true q zero f g ih = ltb-true _ _ q
     go true q (suc k) f g ih = ih k f (omega arith)
-
-pub are_none : (w : List ℕ) → length w ≡ 0 → are_pairs w ≡ false
-are_none w h = simp (eq-eqb _ _ h)
-
-pub are_odd : (w : List ℕ) → (length w ≡ 0 → ⊥) → (length w % 2 ≡ 0 → ⊥) → are_pairs w ≡ false
-are_odd w h g = simp (ne_eqb _ _ h, ne_eqb _ _ g)
 
 pub are_even : (w : List ℕ) → (length w ≡ 0 → ⊥) → length w % 2 ≡ 0 → are_pairs w ≡ all is_digit w
 are_even w h g = simp (ne_eqb _ _ h, eq-eqb _ _ g)
@@ -126,45 +80,35 @@ dash_not [] h = refl
 dash_not (x ∷ []) h = absurd (h refl)
 dash_not (x ∷ y ∷ w) h = refl
 
-pub dash_one : (w : List ℕ) → length w ≡ 1 → is_dash w ≡ eqb (get_or w 0 0) 45
-dash_one [] h = absurd (omega arith)
-dash_one (x ∷ []) h = refl
-dash_one (x ∷ y ∷ w) h = absurd (omega arith)
-
 pub hex_dash : (w : List ℕ) → is_dash w ≡ true → hex_of w ≡ some []
 unfolding hex_of
 hex_dash w e = simp e
-
-pub hex_none : (w : List ℕ) → is_dash w ≡ false → are_pairs w ≡ false → hex_of w ≡ none
-unfolding hex_of
-hex_none w e f = simp (e, f)
 
 pub hex_pairs_lem : (w : List ℕ) → is_dash w ≡ false → are_pairs w ≡ true → hex_of w ≡ some (pairs_of w)
 unfolding hex_of
 hex_pairs_lem w e f = simp (e, f)
 
--- no bytes leave a buffer
-pub unwritten : (x l : List ℕ) → x ≡ [] → l ≡ written 0 x l
-unwritten x l e = sym (ap (λ (y : List ℕ). written 0 y l) e ∙ written_none 0 l)
-
-pub pairs_next : (w l : List ℕ) (i a b : ℕ) → 2 * i + 1 < length w → a ≡ digit_of (get_or w (2 * i) 0) → b ≡ digit_of (get_or w (2 * i + 1) 0)
-    → written (i + 1) (pairs_of (drop (2 * (i + 1)) w)) (set l i (16 * a + b)) ≡ written i (pairs_of (drop (2 * i) w)) l
+-- the next two bytes x spell one byte, and what is left after them the others
+pub pairs_next : (rest x left out : List ℕ) (i a b : ℕ) → rest ≡ x ++ left → length x ≡ 2 → a ≡ digit_of (get_or x 0 0) → b ≡ digit_of (get_or x 1 0)
+    → written (i + 1) (pairs_of left) (set out i (16 * a + b)) ≡ written i (pairs_of rest) out
 unfolding pairs_of
-pairs_next w l i a b h p q =
-    let g : 2 * i < length w = omega arith in
-    let e : 2 * i + 1 + 1 ≡ 2 * (i + 1) = omega arith in
-    sym (ap (λ (v : List ℕ). written i (pairs_of v) l) (next w (2 * i) g ∙ ap (λ (v : List ℕ). get_or w (2 * i) 0 ∷ v) (next w (2 * i + 1) h ∙ ap (λ (k : ℕ). get_or w (2 * i + 1) 0 ∷ drop k w) e))
-    ∙ written_one i (16 * digit_of (get_or w (2 * i) 0) + digit_of (get_or w (2 * i + 1) 0)) (pairs_of (drop (2 * (i + 1)) w)) l
-    ∙ rw (p, q) refl)
-
-pub pairs_end : (w l : List ℕ) (i : ℕ) → length w ≤ 2 * i + 1 → written i (pairs_of (drop (2 * i) w)) l ≡ l
-unfolding pairs_of
-pairs_end w l i h = go (drop (2 * i) w) (simp length-drop (omega arith))
+pairs_next rest x left out i a b e two p q = go x two p q ∙ ap (λ (l : List ℕ). written i (pairs_of l) out) (sym e)
   where
-    go : (v : List ℕ) → length v ≤ 1 → written i (pairs_of v) l ≡ l
-    go [] g = written_none i l
-    go (x ∷ []) g = written_none i l
-    go (x ∷ y ∷ v) g = absurd (omega arith)
+    go : (x : List ℕ) → length x ≡ 2 → a ≡ digit_of (get_or x 0 0) → b ≡ digit_of (get_or x 1 0)
+        → written (i + 1) (pairs_of left) (set out i (16 * a + b)) ≡ written i (pairs_of (x ++ left)) out
+    go [] two p q = absurd (omega arith)
+    go (x ∷ []) two p q = absurd (omega arith)
+    go (x ∷ y ∷ []) two p q = sym (written_one i (16 * digit_of x + digit_of y) (pairs_of left) out ∙ rw (← p, ← q) refl)
+    go (x ∷ y ∷ z ∷ w) two p q = absurd (omega arith)
+
+pub pairs_end : (rest out : List ℕ) (i : ℕ) → length rest < 2 → written i (pairs_of rest) out ≡ out
+unfolding pairs_of
+pairs_end [] out i h = written_none i out
+pairs_end (x ∷ []) out i h = written_none i out
+pairs_end (x ∷ y ∷ w) out i h = absurd (omega arith)
+
+-- each step of the reading of pairs
+pub ruleset pairs_steps = (pairs_next, pairs_end)
 
 pub length-pairs_of : (w : List ℕ) → length (pairs_of w) ≡ length w / 2
 unfolding pairs_of
@@ -175,6 +119,14 @@ length-pairs_of (x ∷ y ∷ w) = omega (arith, length-pairs_of w)
 -- what was written at the start of a buffer stands there
 pub taken : (x l : List ℕ) → length x ≤ length l → take (length x) (written 0 x l) ≡ x
 taken x l h = ap (take (length x)) (written_mid 0 x l (omega arith)) ∙ take_at x (drop (0 + length x) l) (length x) refl
+
+-- a word of pairs is no dash, and its bytes stand at the start of the buffer
+pub hex_taken : (w out after : List ℕ) → are_pairs w ≡ true → length w / 2 ≤ length out → after ≡ written 0 (pairs_of w) out → some (take (length w / 2) after) ≡ hex_of w
+hex_taken w out after e h p =
+    let even = (are_digits w e).0 in
+    let n : length (pairs_of w) ≡ length w / 2 = length-pairs_of w in
+    let q : take (length w / 2) after ≡ pairs_of w = rw (p, ← n) (taken (pairs_of w) out (omega (arith, n))) in
+    ap some q ∙ sym (hex_pairs_lem w (dash_not w (λ one. omega arith)) e)
 
 -- ---- HEX, printed
 
@@ -192,20 +144,13 @@ pub hex_end : (s l : List ℕ) (at i : ℕ) → length s ≤ i → written (at +
 unfolding hex_pairs
 hex_end s l at i h = rw (none_left s i h) (written_none (at + 2 * i) l)
 
+-- each step of the printing of bytes
+pub ruleset hex_steps = (hex_next, hex_end)
+
 pub length_pairs : (s : List ℕ) → length (hex_pairs s) ≡ 2 * length s
 unfolding hex_pairs
 length_pairs [] = refl
 length_pairs (x ∷ s) = omega (arith, length_pairs s)
-
-pub hex_some : (s : List ℕ) → (length s ≡ 0 → ⊥) → (hex_text s ≡ hex_pairs s) × (length (hex_text s) ≡ 2 * length s)
-unfolding hex_text
-hex_some [] h = absurd (h refl)
-hex_some (x ∷ s) h = (refl, length_pairs (x ∷ s))
-
-pub hex_empty : (s : List ℕ) → length s ≡ 0 → hex_text s ≡ 45 ∷ []
-unfolding hex_text
-hex_empty [] h = refl
-hex_empty (x ∷ s) h = absurd (omega arith)
 
 pub length_hex : (s : List ℕ) → length (hex_text s) ≤ 2 * length s + 1
 unfolding hex_text
@@ -245,6 +190,9 @@ few r n h l = by_test_lem (leb r 10) refl
         let b : 10 ≤ r - 1 = omega (arith, leb-false r 10 e) in
         let d : 10 ^ 10 ≤ 10 ^ (r - 1) = pow-le-pow_right (omega arith) b in
         omega (arith, l a)
+
+pub decimal_is : (k n : ℕ) → n < 4_294_967_296 → 1 ≤ k → n < 10 ^ k → (1 < k → 10 ^ (k - 1) ≤ n) → last_digits 10 k n ≡ decimal_of n
+decimal_is k n h g u l = digits_decimal k 10 n g (few k n h l) u l
 
 pub length_decimal : (f n : ℕ) → length (decimal_in f n) ≤ f
 unfolding decimal_in

@@ -1,12 +1,8 @@
 -- Text: lines, words, decimal numbers and HEX, read and printed. A text is a list of bytes. Every definition computes.
 -- Assumes nothing.
-use Rattle.std.specs.Prelude.{◌%◌, ◌*◌, ◌+◌, ◌-◌, ◌/◌, ◌≤◌, suc, zero, ℕ, Bool, ◌&&◌, cond, false, not, List, [], ◌++◌, ◌∷◌, eqb, leb, ltb, length, take}
+use Rattle.std.specs.Prelude.{◌%◌, ◌*◌, ◌+◌, ◌-◌, ◌/◌, ◌≤◌, suc, zero, ℕ, Bool, ◌&&◌, cond, false, not, List, [], ◌++◌, ◌∷◌, eqb, leb, ltb, length, take, Option as TheOption, None, Some}
 use Rattle.std.proofs.Math.Option.{Option, none, some}
 use Rattle.block.specs.Lists.{all}
-use Rattle.text.specs.declared.Hex.{Hex}
-use Rattle.text.specs.declared.Hex.TheVariants.{Bytes, NotHex}
-use Rattle.text.specs.declared.Num.{Num}
-use Rattle.text.specs.declared.Num.TheVariants.{Is, NotNum}
 
 -- ---- lines and words
 
@@ -96,14 +92,14 @@ hex_text (x ∷ s) = hex_pairs (x ∷ s)
 -- ---- the answers of the code
 
 -- a number, or none
-abbrev pub numbered : Num → Option ℕ
-numbered (Is n) = some n
-numbered NotNum = none
+abbrev pub numbered : TheOption ℕ → Option ℕ
+numbered (Some n) = some n
+numbered None = none
 
 -- that many bytes at the start of a buffer, or none
-abbrev pub hexed : Hex → List ℕ → Option (List ℕ)
-hexed (Bytes n) l = some (take n l)
-hexed NotHex l = none
+abbrev pub hexed : TheOption ℕ → List ℕ → Option (List ℕ)
+hexed (Some n) l = some (take n l)
+hexed None l = none
 
 -- the bytes, where there are any
 abbrev pub bytes_or : Option (List ℕ) → List ℕ
@@ -111,6 +107,6 @@ bytes_or none = []
 bytes_or (some x) = x
 
 -- they lie within a buffer of k bytes
-abbrev pub HexFits : Hex → ℕ → Type 0
-HexFits (Bytes n) k = n ≤ k
-HexFits NotHex k = Unit {0}
+abbrev pub HexFits : TheOption ℕ → ℕ → Type 0
+HexFits (Some n) k = n ≤ k
+HexFits None k = Unit {0}

@@ -49,8 +49,8 @@ module _ (t : TurnRecord) (c : TurnCall) where
 
 -- giving back: by the holder, and by another seat
 module _ (t : TurnRecord) (s : ℕ) where
-  pub gives-turn : t.holder ≡ s → {l : List ℕ} → l ≡ pad_to 4 (passed_on (queue_of (numbers_of t))) → l ≡ pad_to 4 (given_back s (queue_of (numbers_of t)))
-  gives-turn e w =
+  pub gives_turn : t.holder ≡ s → {l : List ℕ} → l ≡ pad_to 4 (passed_on (queue_of (numbers_of t))) → l ≡ pad_to 4 (given_back s (queue_of (numbers_of t)))
+  gives_turn e w =
       w ∙ ap (λ (b : Bool). pad_to 4 (cond b (passed_on (queue_of (numbers_of t))) (queue_of (numbers_of t))))
       (sym (eq-eqb (holder (queue_of (numbers_of t))) s (holder_is t.holder (t.first ∷ t.second ∷ t.third ∷ []) ∙ e)))
 

@@ -1,14 +1,16 @@
 -- The four numbers taken as they stand: where the code puts a seat or takes one away is where the line has it.
 -- Assumes nothing.
-use Prim.Native.Nat.{◌≤◌, suc, zero, ℕ}
-use mathlib.Core.Bool.{Bool, cond, false, true}
+use Prim.Native.Nat.{◌<◌, ◌≤◌, suc, zero, ℕ}
+use mathlib.Core.Bool.{Bool, ◌||◌, cond, false, true}
 use mathlib.Core.List.{List, [], ◌++◌, ◌∷◌}
-use mathlib.Core.Path.{◌∙◌, ◌≡◌, ap, refl, sym}
+use mathlib.Core.Path.{◌∙◌, ◌≡◌, ap, ap₂, refl, sym}
 use native.Mathlib.Omega.{arith}
-use borrow.Author.Tests.{eq-eqb, ne_eqb}
+use borrow.Author.Tests.{eq-eqb, eqb-true, ne_eqb}
+use Rattle.std.proofs.lemmas.Bool.{true≢false}
 use lib.Dec.{eqb}
-use lib.ListN.{drop, length}
+use lib.ListN.{drop, length, set}
 use Rattle.model.specs.Codec.{pad_to}
+use Rattle.laws.proofs.Rows.{or_false}
 use Rattle.turns.specs.Turns.{Queue, asked, in_form, is_in, passed_on, queue_of}
 use Rattle.turns.proofs.Form.{padded_is}
 
@@ -28,6 +30,39 @@ queue-short (n ∷ l) = go (eqb n 0) (queue-short l)
     go true h = omega arith
     go false h = omega arith
 
+-- a number among those of a line with zeros behind it: it stands in line already, or is 0
+zero_there : (n s : ℕ) → is_in s (pad_to n []) ≡ true → s ≡ 0
+zero_there zero s e = absurd (true≢false (sym e))
+zero_there (suc n) s e = go (eqb 0 s) refl (zero_there n s) e
+  where
+    go : (t : Bool) → eqb 0 s ≡ t → (is_in s (pad_to n []) ≡ true → s ≡ 0) → (t || is_in s (pad_to n [])) ≡ true → s ≡ 0
+    go true w h e = sym (eqb-true 0 s w)
+    go false w h e = h e
+
+asked_there : (n s : ℕ) (q : Queue) → is_in s (pad_to n q) ≡ true → pad_to n (asked s q) ≡ pad_to n q
+asked_there zero s q e = refl
+asked_there (suc n) s [] e = ap (λ (x : ℕ). x ∷ pad_to n []) (zero_there (suc n) s e)
+asked_there (suc n) s (x ∷ q) e = go (eqb x s) (is_in s q) (asked_there n s q) e
+  where
+    go : (t u : Bool) → (is_in s (pad_to n q) ≡ true → pad_to n (cond u q (q ++ (s ∷ []))) ≡ pad_to n q) → (t || is_in s (pad_to n q)) ≡ true
+        → pad_to (suc n) (cond (t || u) (x ∷ q) (x ∷ (q ++ (s ∷ [])))) ≡ x ∷ pad_to n q
+    go true u h e = refl
+    go false true h e = refl
+    go false false h e = ap (λ (l : List ℕ). x ∷ l) (h e)
+
+out_of : (n s : ℕ) (q : Queue) → length q ≤ n → is_in s (pad_to n q) ≡ false → is_in s q ≡ false
+out_of n s [] h e = refl
+out_of zero s (x ∷ q) h e = absurd (omega arith)
+out_of (suc n) s (x ∷ q) h e =
+    let o = or_false (eqb x s) (is_in s (pad_to n q)) e in
+    ap₂ ◌||◌ o.0 (out_of n s q (omega arith) o.1)
+
+-- the place behind a line
+set_padded : (n s : ℕ) (q : Queue) → length q < n → set (pad_to n q) (length q) s ≡ pad_to n (q ++ (s ∷ []))
+set_padded zero s q h = absurd (omega arith)
+set_padded (suc n) s [] h = refl
+set_padded (suc n) s (x ∷ q) h = ap (λ (l : List ℕ). x ∷ l) (set_padded n s q (omega arith))
+
 module _ (h a b c : ℕ) where
   module _ (form : in_form (h ∷ a ∷ b ∷ c ∷ []) ≡ true) where
     -- ---- the first leaves
@@ -40,55 +75,59 @@ module _ (h a b c : ℕ) where
         go true e = ap (λ (l : List ℕ). drop 1 l ++ (0 ∷ [])) e
         go false e = ap (λ (l : List ℕ). drop 1 l ++ (0 ∷ [])) e ∙ sym (pad_more 3 (queue_of (a ∷ b ∷ c ∷ [])) (queue-short (a ∷ b ∷ c ∷ [])))
 
-    -- ---- a seat joins
+    -- ---- a seat asks
 
     module _ (s : ℕ) where
-      stays : is_in s (queue_of (h ∷ a ∷ b ∷ c ∷ [])) ≡ true → h ∷ a ∷ b ∷ c ∷ [] ≡ pad_to 4 (asked s (queue_of (h ∷ a ∷ b ∷ c ∷ [])))
+      -- it stands there already
+      pub stays : is_in s (h ∷ a ∷ b ∷ c ∷ []) ≡ true → h ∷ a ∷ b ∷ c ∷ [] ≡ pad_to 4 (asked s (queue_of (h ∷ a ∷ b ∷ c ∷ [])))
       stays e =
           padded_is h a b c form
-          ∙ ap (λ (t : Bool). pad_to 4 (cond t (queue_of (h ∷ a ∷ b ∷ c ∷ [])) (queue_of (h ∷ a ∷ b ∷ c ∷ []) ++ (s ∷ [])))) (sym e)
+          ∙ sym (asked_there 4 s (queue_of (h ∷ a ∷ b ∷ c ∷ [])) (ap (is_in s) (sym (padded_is h a b c form)) ∙ e))
 
-      module _ (h0 : h ≡ 0 → ⊥) where
-        pub stays-first : h ≡ s → h ∷ a ∷ b ∷ c ∷ [] ≡ pad_to 4 (asked s (queue_of (h ∷ a ∷ b ∷ c ∷ [])))
-        unfolding queue_of
-        stays-first hs = stays (simp (ne_eqb h 0 h0, eq-eqb h s hs))
+      -- it does not, and gets the first place behind the line
+      pub joins : is_in s (h ∷ a ∷ b ∷ c ∷ []) ≡ false → {q : Queue} → queue_of (h ∷ a ∷ b ∷ c ∷ []) ≡ q → length q < 4
+          → set (h ∷ a ∷ b ∷ c ∷ []) (length q) s ≡ pad_to 4 (asked s (queue_of (h ∷ a ∷ b ∷ c ∷ [])))
+      joins e {q} w l =
+          let p : h ∷ a ∷ b ∷ c ∷ [] ≡ pad_to 4 q = padded_is h a b c form ∙ ap (pad_to 4) w in
+          let o = out_of 4 s q (omega (arith, l)) (ap (is_in s) (sym p) ∙ e) in
+          ap (λ (r : List ℕ). set r (length q) s) p
+          ∙ set_padded 4 s q l
+          ∙ sym (ap (λ (t : Bool). pad_to 4 (cond t q (q ++ (s ∷ [])))) o)
+          ∙ sym (ap (λ (q : Queue). pad_to 4 (asked s q)) w)
 
-        module _ (hs : h ≡ s → ⊥) (a0 : a ≡ 0 → ⊥) where
-          pub stays-second : a ≡ s → h ∷ a ∷ b ∷ c ∷ [] ≡ pad_to 4 (asked s (queue_of (h ∷ a ∷ b ∷ c ∷ [])))
-          unfolding queue_of
-          stays-second as' = stays (simp (ne_eqb h 0 h0, ne_eqb h s hs, ne_eqb a 0 a0, eq-eqb a s as'))
+  -- nobody stands there
+  pub joins-first : (s : ℕ) → h ≡ 0 → s ∷ 0 ∷ 0 ∷ 0 ∷ [] ≡ pad_to 4 (asked s (queue_of (h ∷ a ∷ b ∷ c ∷ [])))
+  unfolding queue_of
+  joins-first s h0 = simp (eq-eqb h 0 h0)
 
-          pub stays-third : (a ≡ s → ⊥) → (b ≡ 0 → ⊥) → b ≡ s → h ∷ a ∷ b ∷ c ∷ [] ≡ pad_to 4 (asked s (queue_of (h ∷ a ∷ b ∷ c ∷ [])))
-          unfolding queue_of
-          stays-third as' b0 bs = stays (simp (ne_eqb h 0 h0, ne_eqb h s hs, ne_eqb a 0 a0, ne_eqb a s as', ne_eqb b 0 b0, eq-eqb b s bs))
+  -- ---- the line, by how many stand there
 
-  module _ (s : ℕ) where
-    pub joins-first : h ≡ 0 → s ∷ 0 ∷ 0 ∷ 0 ∷ [] ≡ pad_to 4 (asked s (queue_of (h ∷ a ∷ b ∷ c ∷ [])))
+  pub line-none : h ≡ 0 → queue_of (h ∷ a ∷ b ∷ c ∷ []) ≡ []
+  unfolding queue_of
+  line-none h0 = simp (eq-eqb h 0 h0)
+
+  module _ (h0 : h ≡ 0 → ⊥) where
+    pub line-one : a ≡ 0 → queue_of (h ∷ a ∷ b ∷ c ∷ []) ≡ h ∷ []
     unfolding queue_of
-    joins-first h0 = simp (eq-eqb h 0 h0)
+    line-one a0 = simp (ne_eqb h 0 h0, eq-eqb a 0 a0)
 
-    module _ (h0 : h ≡ 0 → ⊥) (hs : h ≡ s → ⊥) where
-      pub joins-second : a ≡ 0 → h ∷ s ∷ 0 ∷ 0 ∷ [] ≡ pad_to 4 (asked s (queue_of (h ∷ a ∷ b ∷ c ∷ [])))
+    module _ (a0 : a ≡ 0 → ⊥) where
+      pub line-two : b ≡ 0 → queue_of (h ∷ a ∷ b ∷ c ∷ []) ≡ h ∷ a ∷ []
       unfolding queue_of
-      joins-second a0 = simp (ne_eqb h 0 h0, ne_eqb h s hs, eq-eqb a 0 a0)
+      line-two b0 = simp (ne_eqb h 0 h0, ne_eqb a 0 a0, eq-eqb b 0 b0)
 
-      module _ (a0 : a ≡ 0 → ⊥) (as' : a ≡ s → ⊥) where
-        pub joins-third : b ≡ 0 → h ∷ a ∷ s ∷ 0 ∷ [] ≡ pad_to 4 (asked s (queue_of (h ∷ a ∷ b ∷ c ∷ [])))
+      module _ (b0 : b ≡ 0 → ⊥) where
+        pub line-three : c ≡ 0 → queue_of (h ∷ a ∷ b ∷ c ∷ []) ≡ h ∷ a ∷ b ∷ []
         unfolding queue_of
-        joins-third b0 = simp (ne_eqb h 0 h0, ne_eqb h s hs, ne_eqb a 0 a0, ne_eqb a s as', eq-eqb b 0 b0)
+        line-three c0 = simp (ne_eqb h 0 h0, ne_eqb a 0 a0, ne_eqb b 0 b0, eq-eqb c 0 c0)
 
-        module _ (b0 : b ≡ 0 → ⊥) (bs : b ≡ s → ⊥) where
-          pub joins_fourth : c ≡ 0 → h ∷ a ∷ b ∷ s ∷ [] ≡ pad_to 4 (asked s (queue_of (h ∷ a ∷ b ∷ c ∷ [])))
-          unfolding queue_of
-          joins_fourth c0 = simp (ne_eqb h 0 h0, ne_eqb h s hs, ne_eqb a 0 a0, ne_eqb a s as', ne_eqb b 0 b0, ne_eqb b s bs, eq-eqb c 0 c0)
-
-          -- four stand there, and there is no fifth seat
-          pub joins-full : (c ≡ 0 → ⊥) → h ∷ a ∷ b ∷ c ∷ [] ≡ pad_to 4 (asked s (queue_of (h ∷ a ∷ b ∷ c ∷ [])))
-          unfolding queue_of
-          joins-full c0 =
-              let q : queue_of (h ∷ a ∷ b ∷ c ∷ []) ≡ h ∷ a ∷ b ∷ c ∷ [] = simp (ne_eqb h 0 h0, ne_eqb a 0 a0, ne_eqb b 0 b0, ne_eqb c 0 c0) in
-              go (is_in s (h ∷ a ∷ b ∷ c ∷ [])) ∙ ap (λ (l : Queue). pad_to 4 (asked s l)) (sym q)
-            where
-              go : (t : Bool) → h ∷ a ∷ b ∷ c ∷ [] ≡ pad_to 4 (cond t (h ∷ a ∷ b ∷ c ∷ []) (h ∷ a ∷ b ∷ c ∷ s ∷ []))
-              go true = refl
-              go false = refl
+        -- four stand there, and no fifth fits
+        pub full : (c ≡ 0 → ⊥) → (s : ℕ) → h ∷ a ∷ b ∷ c ∷ [] ≡ pad_to 4 (asked s (queue_of (h ∷ a ∷ b ∷ c ∷ [])))
+        unfolding queue_of
+        full c0 s =
+            let q : queue_of (h ∷ a ∷ b ∷ c ∷ []) ≡ h ∷ a ∷ b ∷ c ∷ [] = simp (ne_eqb h 0 h0, ne_eqb a 0 a0, ne_eqb b 0 b0, ne_eqb c 0 c0) in
+            go (is_in s (h ∷ a ∷ b ∷ c ∷ [])) ∙ ap (λ (l : Queue). pad_to 4 (asked s l)) (sym q)
+          where
+            go : (t : Bool) → h ∷ a ∷ b ∷ c ∷ [] ≡ pad_to 4 (cond t (h ∷ a ∷ b ∷ c ∷ []) (h ∷ a ∷ b ∷ c ∷ s ∷ []))
+            go true = refl
+            go false = refl

@@ -1,4 +1,4 @@
--- A record in form, by tables of all records without a number above 4: the tests of `in_form` are its form, and it is a line of seats, none twice, with zeros behind it.
+-- A record in form, by a table of all records without a number above 4: it is a line of seats, none twice, with zeros behind it.
 -- Assumes nothing.
 use Prim.Native.Nat.{◌≤◌, suc, zero, ℕ}
 use mathlib.Core.Bool.{Bool, ◌&&◌, ◌||◌, cond, false, not, true}
@@ -14,12 +14,6 @@ use Rattle.model.specs.Codec.{pad_to}
 use Rattle.laws.proofs.Accepted.{both}
 use Rattle.turns.specs.Turns.{Queue, in_form, queue_of, seat_after0, seat_twice}
 use Rattle.turns.proofs.Queues.{Right, Seats, few, no_seat_twice}
-
--- as `in_form` tests it: no seat after a 0, and none twice
-abbrev packed_once : ℕ → ℕ → ℕ → ℕ → Bool
-packed_once h a b c =
-    ((not (eqb h 0) || eqb a 0) && ((not (eqb a 0) || eqb b 0) && (not (eqb b 0) || eqb c 0)))
-    && ((eqb a 0 || not (eqb a h)) && ((eqb b 0 || (not (eqb b h) && not (eqb b a))) && (eqb c 0 || (not (eqb c h) && (not (eqb c a) && not (eqb c b))))))
 
 abbrev lows : ℕ → ℕ → ℕ → ℕ → Bool
 lows h a b c = leb h 4 && (leb a 4 && (leb b 4 && leb c 4))
@@ -42,7 +36,7 @@ seats_so (n ∷ l) a = go (eqb n 0) refl (seats_so l a.1)
     go true e s = tt
     go false e s = ((let z = eqb-false n 0 e in omega (arith, z), a.0), s)
 
--- ---- the tables
+-- ---- the table
 
 abbrev alike : Bool → Bool → Bool
 alike true y = y
@@ -67,12 +61,6 @@ everywhere_so f t h a b c lh la lb lc =
     let three = all_from_so (λ b. all_from (λ c. f h a b c) 0 5) 0 5 two b (omega arith) (omega arith) in
     all_from_so (λ c. f h a b c) 0 5 three c (omega arith) (omega arith)
 
-abbrev same_tests : Test
-same_tests h a b c = alike (packed_once h a b c) (once h a b c)
-
-tests_table : T (everywhere same_tests)
-tests_table = tt
-
 abbrev same_line : Test
 same_line h a b c = alike (once h a b c) (lined h a b c)
 
@@ -81,35 +69,31 @@ unfolding queue_of
 line-table = tt
 
 module _ (h a b c : ℕ) where
-  tests_once : h ≤ 4 → a ≤ 4 → b ≤ 4 → c ≤ 4 → packed_once h a b c ≡ once h a b c
-  tests_once lh la lb lc = alike_so (packed_once h a b c) (once h a b c) (everywhere_so same_tests tests_table h a b c lh la lb lc)
-
-  pub form_tests : (lows h a b c && packed_once h a b c) ≡ in_form (h ∷ a ∷ b ∷ c ∷ [])
+  form_tests : (lows h a b c && once h a b c) ≡ in_form (h ∷ a ∷ b ∷ c ∷ [])
   unfolding in_form
-  form_tests = go (leb h 4) (leb a 4) (leb b 4) (leb c 4) (λ wh wa wb wc. tests_once (leb-true h 4 wh) (leb-true a 4 wa) (leb-true b 4 wb) (leb-true c 4 wc))
+  form_tests = go (leb h 4) (leb a 4) (leb b 4) (leb c 4)
     where
-      go : (x y z w : Bool) → (x ≡ true → y ≡ true → z ≡ true → w ≡ true → packed_once h a b c ≡ once h a b c)
-          → ((x && (y && (z && w))) && packed_once h a b c)
+      go : (x y z w : Bool) → ((x && (y && (z && w))) && once h a b c)
           ≡ not ((not x || (not y || (not z || (not w || false)))) || (seat_twice (h ∷ a ∷ b ∷ c ∷ []) || seat_after0 (h ∷ a ∷ b ∷ c ∷ [])))
-      go true true true true e = e refl refl refl refl
-      go true true true false e = refl
-      go true true false w e = refl
-      go true false z w e = refl
-      go false y z w e = refl
+      go true true true true = refl
+      go true true true false = refl
+      go true true false w = refl
+      go true false z w = refl
+      go false y z w = refl
 
   -- ---- a record in form is a line of seats, none twice, with zeros behind it
 
   module _ (lh : h ≤ 4) (la : a ≤ 4) (lb : b ≤ 4) (lc : c ≤ 4) where
-    tests_lined : packed_once h a b c ≡ lined h a b c
-    tests_lined = tests_once lh la lb lc ∙ alike_so (once h a b c) (lined h a b c) (everywhere_so same_line line-table h a b c lh la lb lc)
+    once_lined : once h a b c ≡ lined h a b c
+    once_lined = alike_so (once h a b c) (lined h a b c) (everywhere_so same_line line-table h a b c lh la lb lc)
 
     formed_by : lined h a b c ≡ true → in_form (h ∷ a ∷ b ∷ c ∷ []) ≡ true
-    formed_by e = sym form_tests ∙ ap₂ ◌&&◌ (ap₂ ◌&&◌ (le-leb h 4 lh) (ap₂ ◌&&◌ (le-leb a 4 la) (ap₂ ◌&&◌ (le-leb b 4 lb) (le-leb c 4 lc)))) (tests_lined ∙ e)
+    formed_by e = sym form_tests ∙ ap₂ ◌&&◌ (ap₂ ◌&&◌ (le-leb h 4 lh) (ap₂ ◌&&◌ (le-leb a 4 la) (ap₂ ◌&&◌ (le-leb b 4 lb) (le-leb c 4 lc)))) (once_lined ∙ e)
 
   module _ (form : in_form (h ∷ a ∷ b ∷ c ∷ []) ≡ true) where
     low : (h ≤ 4) × (a ≤ 4) × (b ≤ 4) × (c ≤ 4)
     low =
-        let l = (both (lows h a b c) (packed_once h a b c) (form_tests ∙ form)).0 in
+        let l = (both (lows h a b c) (once h a b c) (form_tests ∙ form)).0 in
         let m = both (leb h 4) (leb a 4 && (leb b 4 && leb c 4)) l in
         let n = both (leb a 4) (leb b 4 && leb c 4) m.1 in
         let o = both (leb b 4) (leb c 4) n.1 in
@@ -118,7 +102,7 @@ module _ (h a b c : ℕ) where
     in_line_lem : lined h a b c ≡ true
     in_line_lem =
         let l = low in
-        sym (tests_lined l.0 l.1 l.2 l.3) ∙ (both (lows h a b c) (packed_once h a b c) (form_tests ∙ form)).1
+        sym (once_lined l.0 l.1 l.2 l.3) ∙ (both (lows h a b c) (once h a b c) (form_tests ∙ form)).1
 
     pub padded_is : h ∷ a ∷ b ∷ c ∷ [] ≡ pad_to 4 (queue_of (h ∷ a ∷ b ∷ c ∷ []))
     padded_is =

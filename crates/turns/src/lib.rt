@@ -5,7 +5,7 @@
 ghost use Rattle.std.specs.Prelude.{◌||◌, not, true, ◌≡◌};
 ghost use Rattle.model.specs.Codec.{pad_to};
 ghost use Rattle.turns.specs.Turned.{held_of, turned, turned_of};
-ghost use Rattle.turns.specs.Turns.{Ask, Give, TakeBack, asked, held_by, in_form, is_seat, no_turn, numbers_of, passed_on, queue_of, turn_call};
+ghost use Rattle.turns.specs.Turns.{Ask, Give, TakeBack, above4, asked, held_by, in_form, is_seat, no_turn, numbers_of, passed_on, queue_of, seat_after0, seat_twice, turn_call};
 
 // The holder, then those waiting, longest first; 0 where none.
 #[repr(C)]
@@ -33,48 +33,70 @@ pub struct Turned {
     pub answer: Held,
 }
 
-// Whether a record has no number above 4, no seat after a 0 and no seat twice.
+// Whether a record has no number above 4, no seat twice and no seat after a 0.
+#[tactic(auto, unfolding(crate::specs::Turns::in_form))]
 pub fn in_form(t: TurnRecord) -> bool
     ensures { result ≡ in_form (numbers_of t) }
 {
-    let h = t.holder;
-    let a = t.first;
-    let b = t.second;
-    let c = t.third;
-    let low = (h <= 4) & ((a <= 4) & ((b <= 4) & (c <= 4)));
-    let packed = ((h != 0) | (a == 0)) & (((a != 0) | (b == 0)) & ((b != 0) | (c == 0)));
-    let first = (a == 0) | (a != h);
-    let second = (b == 0) | ((b != h) & (b != a));
-    let third = (c == 0) | ((c != h) & ((c != a) & (c != b)));
-    low & (packed & (first & (second & third)))
+    !(above4(t) || seat_twice(t) || seat_after0(t))
+}
+
+// A number above 4.
+fn above4(t: TurnRecord) -> bool
+    ensures { result ≡ above4 (numbers_of t) }
+{
+    t.holder > 4 || t.first > 4 || t.second > 4 || t.third > 4
+}
+
+// A seat that stands in a later place too.
+fn seat_twice(t: TurnRecord) -> bool
+    ensures { result ≡ seat_twice (numbers_of t) }
+{
+    (t.holder != 0 && [t.first, t.second, t.third].contains(&t.holder))
+        || (t.first != 0 && [t.second, t.third].contains(&t.first))
+        || (t.second != 0 && t.third == t.second)
+}
+
+// A seat behind a place where none stands.
+fn seat_after0(t: TurnRecord) -> bool
+    ensures { result ≡ seat_after0 (numbers_of t) }
+{
+    (t.holder == 0 && t.first != 0)
+        || (t.first == 0 && t.second != 0)
+        || (t.second == 0 && t.third != 0)
 }
 
 // Refusal 7: the seat isn't 1 to 4, or the record isn't in form.
 fn wrong(t: TurnRecord, seat: u32) -> bool
     ensures { result ≡ (not (is_seat seat) || not (in_form (numbers_of t))) }
 {
-    let formed = in_form(t);
-    !((1 <= seat) & (seat <= 4)) | !formed
+    !(1..=4).contains(&seat) || !in_form(t)
 }
 
 // Nothing changes: refusal 7.
 fn refused(t: TurnRecord) -> Turned
     ensures { result ≡ turned t (held_of (no_turn 7)) }
 {
-    let answer = Held {
-        refusal: 7,
-        holder: 0,
-    };
-    Turned { turn: t, answer }
+    Turned {
+        turn: t,
+        answer: Held {
+            refusal: 7,
+            holder: 0,
+        },
+    }
 }
 
 // The record, and who holds the turn by it.
 fn left(t: TurnRecord) -> Turned
     ensures { result ≡ turned t (held_of (held_by t.holder)) }
 {
-    let holder = t.holder;
-    let answer = Held { refusal: 0, holder };
-    Turned { turn: t, answer }
+    Turned {
+        turn: t,
+        answer: Held {
+            refusal: 0,
+            holder: t.holder,
+        },
+    }
 }
 
 // The seat at the end of the line, unless it stands there.
@@ -82,55 +104,23 @@ fn joined(t: TurnRecord, seat: u32) -> TurnRecord
     requires { in_form (numbers_of t) ≡ true }
     ensures { numbers_of result ≡ pad_to 4 (asked seat (queue_of (numbers_of t))) }
 {
-    let holder = t.holder;
-    let first = t.first;
-    let second = t.second;
-    let third = t.third;
-    if holder == 0 {
-        return TurnRecord {
-            holder: seat,
-            first: 0,
-            second: 0,
-            third: 0,
-        };
+    if [t.holder, t.first, t.second, t.third].contains(&seat) {
+        t
+    } else if t.holder == 0 {
+        TurnRecord { holder: seat, ..t }
+    } else if t.first == 0 {
+        TurnRecord { first: seat, ..t }
+    } else if t.second == 0 {
+        TurnRecord { second: seat, ..t }
+    } else if t.third == 0 {
+        TurnRecord { third: seat, ..t }
+    } else {
+        t
     }
-    if holder == seat {
-        return t;
-    }
-    if first == 0 {
-        return TurnRecord {
-            holder,
-            first: seat,
-            second: 0,
-            third: 0,
-        };
-    }
-    if first == seat {
-        return t;
-    }
-    if second == 0 {
-        return TurnRecord {
-            holder,
-            first,
-            second: seat,
-            third: 0,
-        };
-    }
-    if second == seat {
-        return t;
-    }
-    if third == 0 {
-        return TurnRecord {
-            holder,
-            first,
-            second,
-            third: seat,
-        };
-    }
-    t
 }
 
 // The line without its first.
+#[tactic(auto, using(crate::proofs::Cascade::passed_is))]
 fn passed(t: TurnRecord) -> TurnRecord
     requires { in_form (numbers_of t) ≡ true }
     ensures { numbers_of result ≡ pad_to 4 (passed_on (queue_of (numbers_of t))) }
@@ -144,6 +134,7 @@ fn passed(t: TurnRecord) -> TurnRecord
 }
 
 // A seat asks: it holds the turn if nobody does, else it joins the end of the line.
+#[tactic(auto, unfolding(crate::specs::Turns::turn_call), using(crate::proofs::Calls::left_is))]
 pub fn asked(t: TurnRecord, seat: u32) -> Turned
     ensures { result ≡ turned_of (turn_call (numbers_of t) (Ask seat)) }
 {
@@ -154,6 +145,7 @@ pub fn asked(t: TurnRecord, seat: u32) -> Turned
 }
 
 // A seat gives back: if it holds the turn, the longest waiting seat gets it.
+#[tactic(auto, unfolding(crate::specs::Turns::turn_call), using(crate::proofs::Calls::left_is, crate::proofs::Calls::gives_turn, crate::proofs::Calls::gives_nothing))]
 pub fn given_back(t: TurnRecord, seat: u32) -> Turned
     ensures { result ≡ turned_of (turn_call (numbers_of t) (Give seat)) }
 {
@@ -167,6 +159,7 @@ pub fn given_back(t: TurnRecord, seat: u32) -> Turned
 }
 
 // The planner takes back: the longest waiting seat gets the turn.
+#[tactic(auto, unfolding(crate::specs::Turns::turn_call), using(crate::proofs::Calls::left_is))]
 pub fn taken_back(t: TurnRecord) -> Turned
     ensures { result ≡ turned_of (turn_call (numbers_of t) TakeBack) }
 {

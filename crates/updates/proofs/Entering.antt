@@ -13,7 +13,6 @@ use Rattle.model.specs.Entry.{Entry, deleted, normal}
 use Rattle.model.specs.History.{Bytes, History, present, sheet}
 use Rattle.model.specs.Invariant.{Base, FitsAt}
 use Rattle.model.specs.Machine.{as_in, or_else, reverted_of}
-use Rattle.model.specs.Refusals.{lacking}
 use Rattle.model.specs.Store.{block_count, store_blocks, store_history, used_of}
 use Rattle.model.specs.Types.{entry_as}
 use Rattle.model.specs.WorkCopy.{FitsCopyBlock, copy_bytes, entries_of, entry_block, seat_of}
@@ -34,7 +33,7 @@ use Rattle.search.proofs.Finding.{block_span}
 use Rattle.search.specs.Find.{Spanned, found_in}
 use Rattle.search.specs.declared.Found.{Found}
 use Rattle.updates.proofs.Keeping.{fits_limits, kept}
-use Rattle.updates.specs.Inner.{Takable, conflicting, rebased_state, updated_of}
+use Rattle.updates.specs.Inner.{Takable, rebased_state, updated_of}
 use Rattle.workcopy.proofs.Entries.{same-entry}
 use Rattle.workcopy.specs.Copy.{Carries, PutOk, Reading, bytes_in}
 
@@ -123,10 +122,6 @@ module _ {store copy : Bytes} {v : View} (F : Fitting store copy v) where
     pub revert_stays : e.state ≡ Empty → copy ≡ put k (reverted_of h k (entry_in copy k))
     revert_stays q = same-entry copy F.viewed.accepted k (ap (reverted_of h k) (as_read r q) ∙ sym (as_read r q))
 
-    -- what is put where the state is s
-    pub reverts : {s : State} {t : Bytes} → e.state ≡ s → t ≡ put k (reverted_of h k (entry_as s (bytes_in e (block_at copy (k + 1))))) → t ≡ put k (reverted_of h k (entry_in copy k))
-    reverts q w = w ∙ ap (put k) (sym (ap (reverted_of h k) (as_read r q)))
-
   -- ---- update
 
   pub update_keeps : (k R : ℕ) → R ≤ v.last → FitsAt h k (updated_of h R k (entry_in copy k))
@@ -143,10 +138,6 @@ module _ {store copy : Bytes} {v : View} (F : Fitting store copy v) where
 
     pub update_stays : u ≡ Stay → copy ≡ put k (updated_of h R k (entry_in copy k))
     update_stays q = same-entry copy F.viewed.accepted k (sym (left q))
-
-    -- what is put where the way is w
-    pub updates : {w : Update} {t : Bytes} → u ≡ w → t ≡ put k (or_else (updated_as w store R (entry_in copy k)) (entry_in copy k)) → t ≡ put k (updated_of h R k (entry_in copy k))
-    updates q x = x ∙ ap (put k) (left q)
 
     pub update_takable : {p : ℕ} → R ≤ v.last → k < 32 → u ≡ Take p → Takable store copy k R p
     update_takable le g q = takable g (subst (Stands store) q U.stands) (subst (FitsAt h k) (sym (left q)) (update_keeps k R le))
@@ -165,9 +156,6 @@ module _ {store copy : Bytes} {v : View} (F : Fitting store copy v) where
           rebased_as (Deleted b) x = refl
           rebased_as (Copied s) x = refl
 
-      pub update_rebases : {t : Bytes} → t ≡ put k (entry_as s own) → t ≡ put k (updated_of h R k (entry_in copy k))
-      update_rebases w = w ∙ ap (put k) rebase_is
-
       pub rebase_put : R ≤ v.last → k < 32 → PutOk copy k (record { state = s; len = e.len }) own
       rebase_put le g = record {
         copy = F.viewed.accepted;
@@ -185,7 +173,3 @@ module _ {store copy : Bytes} {v : View} (F : Fitting store copy v) where
           carried Added n c = c
           carried (Deleted b) n c = c
           carried (Copied s) n c = c
-
--- whether update makes nothing of an entry
-pub conflict_as : {store copy : Bytes} {k R : ℕ} {u w : Update} → UpdateIs store copy R k u → u ≡ w → lacking (updated_as w store R (entry_in copy k)) ≡ conflicting store copy R k
-conflict_as {store} {copy} {k} {R} U q = ap (λ (w : Update). lacking (updated_as w store R (entry_in copy k))) (sym q) ∙ ap lacking U.means

@@ -1,16 +1,21 @@
 -- Acceptance as the code goes about it: the first block passes as the seat's, and then each of 32 as an entry's.
 -- Assumes nothing.
-use Prim.Native.Nat.{◌*◌, ◌+◌, ◌-◌, ◌<◌, suc, ℕ}
+use Rattle.std.specs.Prelude.{Err, Ok}
+use Prim.Native.Nat.{◌*◌, suc, zero, ℕ}
 use mathlib.Core.Bool.{Bool, ◌&&◌, cond, false, true}
 use mathlib.Core.List.{List, [], ◌∷◌, map}
 use mathlib.Core.Path.{◌∙◌, ◌≡◌, ap, refl, subst, sym}
 use native.Mathlib.Omega.{arith}
 use borrow.Author.Tests.{eq-eqb, eqb-true, ne_eqb}
 use lib.Dec.{T, eqb}
-use lib.ListN.{drop, get_or, length, take}
-use lib.Seq.{drop-drop, get_or-take}
+use lib.ListN.{drop, get_or, length, length-append, take}
+use lib.Seq.{drop_at, get_or-take, take_at}
+use Rattle.std.proofs.lemmas.Iterator.{YieldsList}
+use Rattle.std.specs.Iterator.{AlwaysYields}
+use Rattle.std.specs.List.{list_all}
+use Rattle.std.specs.Slice.Iter.{chunks_exact_rest, chunks_exact_size, chunks_exact_steps}
+use Rattle.std.specs.declared.slice.ChunksExact.{ChunksExact}
 use Rattle.block.proofs.Says.{Says, and_true, says_alike, says_and3, says_eq, says_same, true_and}
-use Rattle.block.specs.Buffer.{block_at}
 use Rattle.block.specs.Check.{sealed}
 use Rattle.block.specs.Lists.{all, same}
 use Rattle.model.specs.Codec.{padded, parts, shaped}
@@ -20,7 +25,6 @@ use Rattle.model.specs.declared.Refusal.TheVariants.{CopyLayout, CopyLength}
 use Rattle.workcopy.proofs.Scan.{parse-seat}
 use Rattle.workcopy.specs.Copy.{Accepted, accept_of}
 use Rattle.workcopy.specs.Shape.{ok_block, shaped_block}
-use Rattle.workcopy.specs.declared.Acceptance.TheVariants.{Refused, Seat}
 
 -- ---- one block
 
@@ -65,19 +69,6 @@ itself b = record { true_so = λ t. t; so_true = λ t. t }
 says-ok : (k : ℕ) (p : List ℕ) → Says (ok_block k p) (T (sealed p) × (get_or p 0 0 ≡ k) × T (shaped_block p))
 unfolding ok_block
 says-ok k p = says_and3 (itself (sealed p)) (says_eq (get_or p 0 0) k) (itself (shaped_block p))
-
-module _ (k : ℕ) (p : List ℕ) where
-  pub ok_unsealed : sealed p ≡ false → ok_block k p ≡ false
-  unfolding ok_block
-  ok_unsealed e = rw e
-
-  pub ok-other : sealed p ≡ true → (get_or p 0 0 ≡ k → ⊥) → ok_block k p ≡ false
-  unfolding ok_block
-  ok-other e ne = rw (e, ne_eqb (get_or p 0 0) k ne)
-
-  pub ok-shaped : sealed p ≡ true → get_or p 0 0 ≡ k → ok_block k p ≡ shaped_block p
-  unfolding ok_block
-  ok-shaped e ek = rw (e, eq-eqb (get_or p 0 0) k ek)
 
 -- ---- all of them
 
@@ -147,57 +138,55 @@ module _ (l : List ℕ) where
       let b = (says-ok 4 (take 512 l)).true_so (subst T (sym e) tt) in
       ap (λ (q : CopyBlock). seat_in (q ∷ map parse_copy_block (parts 32 (drop 512 l)))) (parse-seat (take 512 l) b.1) ∙ get_or-take 512 l 1 0 (omega arith)
 
-  pub wrong-length : (length l ≡ 16_896 → ⊥) → Refused CopyLength ≡ accept_of l
+  pub wrong-length : (length l ≡ 16_896 → ⊥) → Err CopyLength ≡ accept_of l
   unfolding accept_of
   wrong-length ne = rw (ne_eqb (length l) 16_896 ne)
 
   module _ (e : length l ≡ 16_896) where
-    pub wrong-seat : ok_block 4 (take 512 l) ≡ false → Refused CopyLayout ≡ accept_of l
+    pub wrong-seat : ok_block 4 (take 512 l) ≡ false → Err CopyLayout ≡ accept_of l
     unfolding accept_of
     wrong-seat h = rw (eq-eqb (length l) 16_896 e, ok_is, h)
 
     module _ (h : ok_block 4 (take 512 l) ≡ true) where
-      pub wrong-entry : all (ok_block 5) (parts 32 (drop 512 l)) ≡ false → Refused CopyLayout ≡ accept_of l
+      pub wrong-entry : all (ok_block 5) (parts 32 (drop 512 l)) ≡ false → Err CopyLayout ≡ accept_of l
       unfolding accept_of
       wrong-entry g = rw (eq-eqb (length l) 16_896 e, ok_is, h, g)
 
-      pub all_right : {s : ℕ} → all (ok_block 5) (parts 32 (drop 512 l)) ≡ true → s ≡ get_or l 1 0 → Seat s ≡ accept_of l
+      pub all_right : {s : ℕ} → all (ok_block 5) (parts 32 (drop 512 l)) ≡ true → s ≡ get_or l 1 0 → Ok s ≡ accept_of l
       unfolding accept_of
-      all_right g es = rw (eq-eqb (length l) 16_896 e, ok_is, h, g) (ap Seat (es ∙ sym (seat_is h)))
+      all_right g es = rw (eq-eqb (length l) 16_896 e, ok_is, h, g) (ap Ok (es ∙ sym (seat_is h)))
 
   -- what an answer of acceptance tells
-  pub seat_so : (s : ℕ) → accept_of l ≡ Seat s → Accepted l × (s ≡ seat_of l)
+  pub seat_so : (s : ℕ) → accept_of l ≡ Ok s → Accepted l × (s ≡ seat_of l)
   unfolding accept_of
   seat_so s e = let r = tests (eqb (length l) 16_896) (copy_ok l) e in (record { size = eqb-true (length l) 16_896 r.0; ok = r.1 }, r.2)
     where
-      tests : (a b : Bool) → cond a (cond b (Seat (seat_of l)) (Refused CopyLayout)) (Refused CopyLength) ≡ Seat s → (a ≡ true) × T b × (s ≡ seat_of l)
+      tests : (a b : Bool) → cond a (cond b (Ok (seat_of l)) (Err CopyLayout)) (Err CopyLength) ≡ Ok s → (a ≡ true) × T b × (s ≡ seat_of l)
       tests true true e = (refl, tt, cc)
       tests true false e = let z : ◌≡◌ {A = ℕ} 0 1 = cc in absurd (omega arith)
       tests false b e = let z : ◌≡◌ {A = ℕ} 0 1 = cc in absurd (omega arith)
 
--- ---- the loop over the 32 blocks: what is left of them from block i on
+-- ---- the code's way through the blocks
 
-pub left : List ℕ → ℕ → Bool
-left l i = all (ok_block 5) (parts (33 - i) (drop (512 * i) l))
+-- what `chunks_exact` yields are the parts
+chunks_give : (n : ℕ) (s : ChunksExact ℕ) → chunks_exact_size s ≡ 512 → length (chunks_exact_rest s) ≡ 512 * n
+    → AlwaysYields chunks_exact_steps (λ y. y.now) s (parts n (chunks_exact_rest s))
+chunks_give zero s e l = λ x j p. absurd (omega (arith, ap length p.1.0, length-append x.now (chunks_exact_rest j), p.1.1))
+chunks_give (suc n) s e l = (
+  (λ j p. absurd (omega (arith, p.1.0))),
+  λ x j p.
+      let k : length x.now ≡ 512 = omega (arith, p.1.1) in
+      let r : drop 512 (chunks_exact_rest s) ≡ chunks_exact_rest j = ap (drop 512) p.1.0 ∙ drop_at x.now (chunks_exact_rest j) 512 k in
+      let m : length (chunks_exact_rest j) ≡ 512 * n = omega (arith, ap length p.1.0, length-append x.now (chunks_exact_rest j)) in (
+        sym (ap (take 512) p.1.0 ∙ take_at x.now (chunks_exact_rest j) 512 k),
+        subst (λ (t : List ℕ). AlwaysYields chunks_exact_steps (λ y. y.now) j (parts n t)) (sym r) (chunks_give n j (p.0 ∙ e) m),
+      ),
+)
 
-left_step : (l : List ℕ) (i : ℕ) → i < 33 → left l i ≡ (ok_block 5 (block_at l i) && left l (i + 1))
-unfolding left
-left_step l i h =
-    let e : 33 - i ≡ suc (33 - (i + 1)) = omega arith in
-    let d : 512 * i + 512 ≡ 512 * (i + 1) = omega arith in
-    ap (λ (n : ℕ). all (ok_block 5) (parts n (drop (512 * i) l))) e
-    ∙ ap (λ (x : List ℕ). ok_block 5 (block_at l i) && all (ok_block 5) (parts (33 - (i + 1)) x)) (drop-drop 512 (512 * i) l ∙ ap (λ (n : ℕ). drop n l) d)
+pub chunks_are : {s : ChunksExact ℕ} (n : ℕ) (l : List ℕ) → chunks_exact_size s ≡ 512 → chunks_exact_rest s ≡ l → length l ≡ 512 * n
+    → YieldsList chunks_exact_steps (λ y. y.now) s (parts n l)
+chunks_are {s} n l e r m = record { runs = subst (λ (t : List ℕ). AlwaysYields chunks_exact_steps (λ y. y.now) s (parts n t)) r (chunks_give n s e (ap length r ∙ m)) }
 
-pub left_fails : (l : List ℕ) (i : ℕ) → i < 33 → ok_block 5 (block_at l i) ≡ false → left l i ≡ false
-left_fails l i h e = left_step l i h ∙ rw e
-
-pub left_passes : (l : List ℕ) (i : ℕ) → i < 33 → ok_block 5 (block_at l i) ≡ true → left l i ≡ left l (i + 1)
-left_passes l i h e = left_step l i h ∙ rw e
-
-pub left-none : (l : List ℕ) (i : ℕ) → i ≡ 33 → left l i ≡ true
-unfolding left
-left-none l i e = rw e
-
-pub left-all : (l : List ℕ) → left l 1 ≡ all (ok_block 5) (parts 32 (drop 512 l))
-unfolding left
-left-all l = refl
+pub all_is : {A : Type 0} (f : A → Bool) (xs : List A) → list_all f xs ≡ all f xs
+all_is f [] = refl
+all_is f (x ∷ xs) = ap (λ (b : Bool). f x && b) (all_is f xs)

@@ -1,16 +1,13 @@
 -- Blocks that are lent and written, over plain variables: an entry's block from its head and its bytes, and bytes copied from one block to another.
 -- Assumes nothing.
-use Prim.Native.Nat.{◌*◌, ◌+◌, ◌-◌, ◌<◌, ◌≤◌, suc, zero, ℕ}
+use Prim.Native.Nat.{◌*◌, ◌+◌, ◌-◌, ◌≤◌, suc, zero, ℕ}
 use mathlib.Core.List.{List, [], ◌++◌, ◌∷◌, append_assoc}
-use mathlib.Core.Logic.{◌⊎◌, inl, inr}
 use mathlib.Core.Path.{◌∙◌, ◌≡◌, ap, ap₂, refl, subst, sym}
-use native.Mathlib.Decide.{dec_lt}
 use native.Mathlib.Nat.{suc-add, zero-add}
-use native.Mathlib.Numerals.{add-one}
 use native.Mathlib.Omega.{arith}
 use borrow.Rule.Slice.PartMut.{put_mid}
-use lib.ListN.{drop, get_or, length, length-drop, replicate, set, take}
-use lib.Seq.{drop_at, drop-drop, drop-paste, get_or-drop, get_or-set_other, length-take-le, paste, paste-suc, take-append-add, take-append-le, take_at, take-nil, take-take}
+use lib.ListN.{drop, length, length-drop, replicate, set, take}
+use lib.Seq.{drop_at, drop-drop, drop-paste, length-take-le, paste, take-append-add, take-append-le, take_at, take-nil, take-take}
 use Rattle.block.proofs.Writing.{length-written, written_mid}
 use Rattle.block.specs.Buffer.{block_at, with_block}
 use Rattle.block.specs.Check.{seal_of}
@@ -23,7 +20,7 @@ use Rattle.model.specs.declared.State.{State}
 use Rattle.model.specs.declared.State.TheVariants.{Added, Copied, Deleted, Empty, Normal}
 use Rattle.laws.proofs.Parts.{finish_is}
 use Rattle.workcopy.proofs.Entries.{put_is}
-use Rattle.workcopy.specs.Copy.{Apart, Carries, CopyOk, Fit, PutOk, Small, bytes_in, head_of}
+use Rattle.workcopy.specs.Copy.{Carries, CopyOk, Fit, PutOk, Small, bytes_in, head_of}
 
 -- ---- a part that is lent, from its two ends
 
@@ -123,27 +120,6 @@ put_back l i k e b p ek ey = mid_is l (i + 1) k ek ey ∙ put_is l p.copy i p.in
 
 -- ---- bytes copied within one buffer
 
--- outside the n places from b on nothing changed
-pub Kept : ℕ → ℕ → List ℕ → List ℕ → Type 0
-Kept b n l t = (x : ℕ) → (x < b) ⊎ (b + n ≤ x) → get_or t x 0 ≡ get_or l x 0
-
-pub kept_start : (b n : ℕ) (l : List ℕ) → Kept b n l l
-unfolding Kept
-kept_start b n l x o = refl
-
-pub kept_step : (b n i v : ℕ) (l t : List ℕ) → i < n → Kept b n l t → Kept b n l (set t (b + i) v)
-unfolding Kept
-kept_step b n i v l t h k x o = get_or-set_other t (b + i) x v 0 (λ e. elim o [ inl p ↦ omega arith | inr q ↦ omega arith ]) ∙ k x o
-
-pub copy_step : (a b n i : ℕ) (l t : List ℕ) → i < n → Apart a b n (length l) → Kept b n l t → t ≡ paste l b (drop a l) i
-    → set t (b + i) (get_or t (a + i) 0) ≡ paste l b (drop a l) (i + 1)
-unfolding Kept
-copy_step a b n i l t h p k e =
-    let o : (a + i < b) ⊎ (b + n ≤ a + i) = elim p.apart [ inl x ↦ inl (omega arith) | inr y ↦ inr (omega arith) ] in
-    let v : get_or t (a + i) 0 ≡ get_or (drop a l) i 0 = k (a + i) o ∙ sym (get_or-drop a l i 0) in
-    let d : i < length (drop a l) = simp length-drop (omega (arith, p.first)) in
-    ap₂ (λ (x : List ℕ) (y : ℕ). set x (b + i) y) e v ∙ paste-suc l b (drop a l) i 0 (omega (arith, p.second)) d ∙ rw (add-one i)
-
 drop-take : (k m : ℕ) (l : List ℕ) → drop k (take (k + m) l) ≡ take m (drop k l)
 drop-take zero m l = rw (zero-add m)
 drop-take (suc k) m [] = rw (suc-add k m) (sym (take-nil m))
@@ -183,14 +159,6 @@ module _ (l s : List ℕ) (at n : ℕ) {t : List ℕ} (h : n ≤ 480) (room : at
 module _ (l : List ℕ) (from to : ℕ) (e : Entry) (p : CopyOk l from to e) where
   short : e.len ≤ 480
   short = fit-short e (bytes_in e (block_at l (from + 1))) p.put.fit
-
-  pub copy_apart : Apart (512 * (from + 1) + 16) (512 * (to + 1) + 16) e.len (length l)
-  copy_apart =
-      record {
-        first = omega (arith, short, p.inside, p.put.copy.size);
-        second = omega (arith, short, p.put.inside, p.put.copy.size);
-        apart = elim (dec_lt from to) [ yes h ↦ inl (omega (arith, short)) | no h ↦ inr (let d : to < from = omega (arith, p.differ) in omega (arith, short)) ];
-      }
 
   module _ {t : List ℕ} (et : t ≡ paste l (512 * (to + 1) + 16) (drop (512 * (from + 1) + 16) l) e.len) (k : ℕ) (ek : k ≡ 512) where
     room : 512 * (to + 1) + 512 ≤ length l

@@ -1,11 +1,14 @@
 -- A fresh copy, block by block, and the answers of create.
 -- Assumes nothing.
+use Rattle.std.specs.Prelude.{Err, Ok}
 use Prim.Native.Nat.{◌*◌, ◌+◌, ◌-◌, ◌<◌, ◌≤◌, suc, ℕ}
+use mathlib.Core.Bool.{◌&&◌, false}
 use mathlib.Core.List.{List, [], ◌++◌, ◌∷◌, append_assoc, append-nil}
 use mathlib.Core.Path.{◌∙◌, ◌≡◌, ap, refl, sym}
 use native.Mathlib.Omega.{arith}
-use borrow.Author.Tests.{eq-eqb, le-leb, lt-leb, ne_eqb}
+use borrow.Author.Tests.{eq-eqb, ne_eqb}
 use borrow.Rule.Slice.PartMut.{put_mid}
+use lib.Dec.{leb}
 use lib.ListN.{drop, length, length-set, replicate, set, take}
 use lib.Seq.{length-take-le, take_all, take-append-add, take_at}
 use Rattle.block.specs.Check.{seal_of}
@@ -14,7 +17,7 @@ use Rattle.model.specs.Calls.{create_copy, fresh_copy}
 use Rattle.model.specs.Codec.{encode, joined}
 use Rattle.model.specs.Entry.{empty}
 use Rattle.model.specs.WorkCopy.{copy_bytes, copy_fields, entry_block, seat_block}
-use Rattle.model.specs.declared.Answer.TheVariants.{Done, Refused}
+use Rattle.model.specs.declared.Answer.TheVariants.{Done}
 use Rattle.model.specs.declared.Refusal.TheVariants.{CopyLength, Range}
 use Rattle.laws.proofs.Codec.{length-encode}
 use Rattle.laws.proofs.Fresh.{create_copy_lem}
@@ -61,18 +64,14 @@ unfolding so_far
 fresh-done l i e len = ap (so_far l) e ∙ append-nil (take 16_896 l) ∙ take_all 16_896 l (omega arith)
 
 module _ (l : List ℕ) (seat : ℕ) where
-  pub create_length : (length l ≡ 16_896 → ⊥) → created_as (Refused CopyLength) l ≡ create_copy l seat
+  pub create_length : (length l ≡ 16_896 → ⊥) → created_as (Err CopyLength) l ≡ create_copy l seat
   unfolding create_copy
   create_length ne = rw (ne_eqb (length l) 16_896 ne)
 
   module _ (e : length l ≡ 16_896) where
-    pub create_low : seat < 1 → created_as (Refused Range) l ≡ create_copy l seat
+    pub create_range : (leb 1 seat && leb seat 4) ≡ false → created_as (Err Range) l ≡ create_copy l seat
     unfolding create_copy
-    create_low h = rw (eq-eqb (length l) 16_896 e, lt-leb 1 seat h)
+    create_range h = rw (eq-eqb (length l) 16_896 e, h)
 
-    pub create_high : 1 ≤ seat → 4 < seat → created_as (Refused Range) l ≡ create_copy l seat
-    unfolding create_copy
-    create_high g h = rw (eq-eqb (length l) 16_896 e, le-leb 1 seat g, lt-leb seat 4 h)
-
-    pub create_done : {t : List ℕ} → 1 ≤ seat → seat ≤ 4 → t ≡ fresh_copy seat → created_as Done t ≡ create_copy l seat
-    create_done g h p = ap (created_as Done) p ∙ sym (create_copy_lem l seat e g h)
+    pub create_done : {t : List ℕ} → 1 ≤ seat → seat ≤ 4 → t ≡ fresh_copy seat → created_as (Ok Done) t ≡ create_copy l seat
+    create_done g h p = ap (created_as (Ok Done)) p ∙ sym (create_copy_lem l seat e g h)

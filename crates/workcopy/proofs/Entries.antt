@@ -25,7 +25,7 @@ use Rattle.laws.proofs.Parts.{joined_at, joined-set}
 use Rattle.laws.proofs.WorkCopy.{copy_holds, holds-copy}
 use Rattle.workcopy.proofs.Accepting.{entry_first}
 use Rattle.workcopy.proofs.Scan.{parse_entry_lem}
-use Rattle.workcopy.specs.Copy.{Accepted, Carries, Reading, bytes_in, read_entry, state_in}
+use Rattle.workcopy.specs.Copy.{Accepted, Carries, Reading, bytes_in, read_entry}
 
 map-set : (es : List Entry) (i : ℕ) (e : Entry) → map entry_block (set es i e) ≡ set (map entry_block es) i (entry_block e)
 map-set [] i e = refl
@@ -91,13 +91,6 @@ module _ (l : List ℕ) (a : Accepted l) where
 through : {A B : Type 0} (f : A → B) (b : Bool) (x y : A) → f (cond b x y) ≡ cond b (f x) (f y)
 through f true x y = refl
 through f false x y = refl
-
-pub read_is : (p : List ℕ) {s : State} {n b h r : ℕ} → s ≡ state_in (get_or p 1 0) b h r → n ≡ two_at p 2 → b ≡ two_at p 4 → h ≡ get_or p 6 0 → r ≡ two_at p 8
-    → ◌≡◌ {A = TheEntry} (record { state = s; len = n }) (read_entry p)
-unfolding read_entry
-read_is p {s} {n} {b} {h} {r} e en eb eh er =
-    let q : s ≡ state_in (get_or p 1 0) (two_at p 4) (get_or p 6 0) (two_at p 8) = e ∙ (λ i. state_in (get_or p 1 0) (eb i) (eh i) (er i)) in
-    λ i. record { state = q i; len = en i }
 
 -- what the code reads from a block means, with the block's bytes, what the block would be
 read_means : (p : List ℕ) → entry_of (read_entry p) (bytes_in (read_entry p) p) ≡ parse_entry (get_or p 1 0) p

@@ -1,16 +1,16 @@
 -- The shape of a block, as the code looks at it: it compares fields and zeros, and does not build the bytes that a block should have.
 -- Assumes nothing.
 use Prim.Native.Nat.{◌%◌, ◌*◌, ◌+◌, ◌-◌, ◌/◌, ◌<◌, ◌≤◌, suc, zero, ℕ}
-use mathlib.Core.Bool.{Bool, false, true}
+use mathlib.Core.Bool.{Bool, ◌&&◌, false, true}
 use mathlib.Core.List.{List, [], ◌∷◌, head-eq_of_cons-eq, tail-eq_of_cons-eq}
 use mathlib.Core.Path.{◌∙◌, ◌≡◌, ap, refl, subst, sym}
 use native.Mathlib.Omega.{arith}
 use borrow.Author.Tests.{ne_eqb}
-use lib.Dec.{T, leb}
+use lib.Dec.{T, eqb, leb}
 use lib.ListN.{drop, get_or, length, length-drop, length-take, take}
 use lib.Seq.{drop-cons, get_or-drop, length-take-le}
 use Rattle.block.proofs.Parts.{first_sixteen}
-use Rattle.block.proofs.Says.{Says, says_alike, says-and, says_eq, says_false, says-le, says_same, true_and, true_says}
+use Rattle.block.proofs.Says.{Says, says_alike, says-and, says_and3, says_and4, says_eq, says-le, says_same, true_and}
 use Rattle.block.specs.Check.{is_zero}
 use Rattle.block.specs.Field.{two_at}
 use Rattle.block.specs.Lists.{All}
@@ -329,44 +329,32 @@ says_part l a k =
       so_true = λ z. s.so_true (λ i h. get_or-drop a l i 0 ∙ z (a + i) (omega arith) (omega arith));
     }
 
+itself : (b : Bool) → Says b (T b)
+itself b = record { true_so = λ t. t; so_true = λ t. t }
+
+-- the tests of an entry's block, in the code's order
+abbrev pub entry_tests : List ℕ → Bool
+entry_tests l =
+    let n = two_at l 2 in
+    leb n 480 && (eqb (get_or l 7 0) 0 && (is_zero (take 6 (drop 10 l)) && (is_zero (take (508 - (16 + n)) (drop (16 + n) l))
+    && fields_ok (get_or l 1 0) n (two_at l 4) (get_or l 6 0) (two_at l 8))))
+
+-- and of the seat's
+abbrev pub seat_tests : List ℕ → Bool
+seat_tests l = leb 1 (get_or l 1 0) && (leb (get_or l 1 0) 4 && is_zero (take 506 (drop 2 l)))
+
 module _ (l : List ℕ) (size : length l ≡ 512) (bytes : (i : ℕ) → get_or l i 0 < 256) where
-  module _ (kind : get_or l 0 0 ≡ 5) where
-    pub entry_seven : (get_or l 7 0 ≡ 0 → ⊥) → false ≡ shaped_block l
-    entry_seven ne = sym (says_false (says-entry l size bytes kind) (λ s. ne s.seven))
+  pub entry_shape_is : get_or l 0 0 ≡ 5 → shaped_block l ≡ entry_tests l
+  entry_shape_is kind =
+      let n = two_at l 2 in
+      says_alike (says-entry l size bytes kind)
+      (says-and (says-le n 480) (says_and4 (says_eq (get_or l 7 0) 0) (says_part l 10 6) (says_part l (16 + n) (508 - (16 + n)))
+      (itself (fields_ok (get_or l 1 0) n (two_at l 4) (get_or l 6 0) (two_at l 8)))))
+      (λ s. (s.size, (s.seven, λ i h g. s.gap i h (omega arith), λ i h g. s.rest i (omega arith) (omega (arith, s.size)), s.fields)))
+      (λ p. record { size = p.0; seven = p.1.0; gap = λ i h g. p.1.1 i h (omega arith); rest = λ i h g. p.1.2 i (omega arith) (omega (arith, p.0)); fields = p.1.3 })
 
-    pub entry_gap : is_zero (take 6 (drop 10 l)) ≡ false → false ≡ shaped_block l
-    entry_gap e = sym (says_false (says-entry l size bytes kind) (λ s. subst T e ((says_part l 10 6).so_true (λ i h g. s.gap i h (omega arith)))))
-
-    module _ (n : ℕ) (en : n ≡ two_at l 2) where
-      pub entry_long : 480 < n → false ≡ shaped_block l
-      entry_long h = sym (says_false (says-entry l size bytes kind) (λ s. omega (arith, s.size)))
-
-      pub entry-rest : n ≤ 480 → is_zero (take (508 - (16 + n)) (drop (16 + n) l)) ≡ false → false ≡ shaped_block l
-      entry-rest h e =
-          sym (says_false (says-entry l size bytes kind)
-          (λ s. subst T e ((says_part l (16 + n) (508 - (16 + n))).so_true (λ i h g. s.rest i (omega arith) (omega arith)))))
-
-      pub entry-last : {b r : ℕ} {t : Bool} → n ≤ 480 → get_or l 7 0 ≡ 0 → is_zero (take 6 (drop 10 l)) ≡ true
-          → is_zero (take (508 - (16 + n)) (drop (16 + n) l)) ≡ true → b ≡ two_at l 4 → r ≡ two_at l 8
-          → t ≡ fields_ok (get_or l 1 0) n b (get_or l 6 0) r → t ≡ shaped_block l
-      entry-last {b} {r} {t} h seven gap rest eb er et =
-          let f : Bool = fields_ok (get_or l 1 0) (two_at l 2) (two_at l 4) (get_or l 6 0) (two_at l 8) in
-          let e : t ≡ f = et ∙ (λ i. fields_ok (get_or l 1 0) (en i) (eb i) (get_or l 6 0) (er i)) in
-          let g = true_says (says_part l 10 6) gap in
-          let z = true_says (says_part l (16 + n) (508 - (16 + n))) rest in
-          e ∙ says_alike (record { true_so = λ (u : T f). u; so_true = λ (u : T f). u }) (says-entry l size bytes kind)
-          (λ u. record { size = omega arith; seven = seven; gap = λ i p q. g i p (omega arith); rest = λ i p q. z i (omega arith) (omega arith); fields = u })
-          (λ s. s.fields)
-
-  module _ (kind : get_or l 0 0 ≡ 4) where
-    pub seat-low : get_or l 1 0 < 1 → false ≡ shaped_block l
-    seat-low h = sym (says_false (says-seat l size bytes kind) (λ s. omega (arith, s.low)))
-
-    pub seat-high : 4 < get_or l 1 0 → false ≡ shaped_block l
-    seat-high h = sym (says_false (says-seat l size bytes kind) (λ s. omega (arith, s.high)))
-
-    pub seat-last : {t : Bool} → 1 ≤ get_or l 1 0 → get_or l 1 0 ≤ 4 → t ≡ is_zero (take 506 (drop 2 l)) → t ≡ shaped_block l
-    seat-last low high e =
-        e ∙ says_alike (says_part l 2 506) (says-seat l size bytes kind)
-        (λ z. record { low = low; high = high; rest = λ i p q. z i p (omega arith) })
-        (λ s i p q. s.rest i p (omega arith))
+  pub seat_shape_is : get_or l 0 0 ≡ 4 → shaped_block l ≡ seat_tests l
+  seat_shape_is kind =
+      says_alike (says-seat l size bytes kind) (says_and3 (says-le 1 (get_or l 1 0)) (says-le (get_or l 1 0) 4) (says_part l 2 506))
+      (λ s. (s.low, s.high, λ i h g. s.rest i h (omega arith)))
+      (λ p. record { low = p.0; high = p.1; rest = λ i h g. p.2 i h (omega arith) })

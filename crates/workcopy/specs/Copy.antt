@@ -1,6 +1,6 @@
 -- An accepted working copy, what acceptance answers, and the entries that are read from it and put into it.
 -- Assumes nothing.
-use Rattle.std.specs.Prelude.{◌+◌, ◌<◌, ◌≤◌, ℕ, cond, List, [], ◌∷◌, ◌⊎◌, ◌≡◌, T, eqb, drop, get_or, length, take}
+use Rattle.std.specs.Prelude.{◌+◌, ◌<◌, ◌≤◌, ℕ, cond, List, [], ◌∷◌, ◌⊎◌, ◌≡◌, T, eqb, drop, get_or, length, take, Err, Ok, Result}
 use Rattle.block.specs.Buffer.{block_at}
 use Rattle.block.specs.Field.{two, two_at}
 use Rattle.model.specs.Entry.{empty}
@@ -10,8 +10,7 @@ use Rattle.model.specs.declared.Entry.{Entry}
 use Rattle.model.specs.declared.Refusal.TheVariants.{CopyLayout, CopyLength}
 use Rattle.model.specs.declared.State.{State}
 use Rattle.model.specs.declared.State.TheVariants.{Added, Copied, Deleted, Empty, Normal}
-use Rattle.workcopy.specs.declared.Acceptance.{Acceptance}
-use Rattle.workcopy.specs.declared.Acceptance.TheVariants.{Refused, Seat}
+use Rattle.model.specs.declared.Refusal.{Refusal}
 
 -- neither refusal 4 nor refusal 5 names these bytes
 pub record Accepted (l : List ℕ) : Type 0 where
@@ -19,8 +18,8 @@ pub record Accepted (l : List ℕ) : Type 0 where
   pub ok : T (copy_ok l)
 
 -- "4. The working copy's length isn't 16,896. 5. The working copy has a wrong check or a broken layout": else the seat
-unfoldable pub accept_of : List ℕ → Acceptance
-accept_of l = cond (eqb (length l) 16_896) (cond (copy_ok l) (Seat (seat_of l)) (Refused CopyLayout)) (Refused CopyLength)
+unfoldable pub accept_of : List ℕ → Result ℕ Refusal
+accept_of l = cond (eqb (length l) 16_896) (cond (copy_ok l) (Ok (seat_of l)) (Err CopyLayout)) (Err CopyLength)
 
 -- ---- an entry of the code, and its bytes in a block
 

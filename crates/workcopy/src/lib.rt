@@ -2,7 +2,6 @@
 #![tactic(auto)]
 
 ghost use Rattle.std.specs.Prelude.{◌+◌, ◌<◌, ◌≡◌, drop, get_or, length, set};
-ghost use Rattle.std.proofs.Math.Seq.{paste};
 ghost use Rattle.block.specs.Buffer.{block_at};
 ghost use Rattle.block.specs.Lists.{all};
 ghost use Rattle.model.specs.Calls.{create_copy, fresh_copy};
@@ -10,17 +9,10 @@ ghost use Rattle.model.specs.Codec.{encode, parts};
 ghost use Rattle.model.specs.Entry.{empty};
 ghost use Rattle.model.specs.Types.{created_as, entry_of};
 ghost use Rattle.model.specs.WorkCopy.{copy_bytes, copy_fields, entries_of, entry_block, seat_block, seat_of};
-ghost use Rattle.workcopy.specs.Copy.{Accepted, Apart, CopyOk, Fit, PutOk, Reading, Small, accept_of, bytes_in, head_bytes, head_of, read_entry, state_in};
+ghost use Rattle.workcopy.specs.Copy.{Accepted, CopyOk, Fit, PutOk, Reading, Small, accept_of, bytes_in, head_bytes, head_of, read_entry, state_in};
 ghost use Rattle.workcopy.specs.Shape.{fields_ok, ok_block, shaped_block};
 
 use model::{Answer, Entry, Refusal, Source, State};
-
-// What acceptance finds: the refusal, or the copy's seat.
-#[derive(Clone, Copy)]
-pub enum Acceptance {
-    Refused(Refusal),
-    Seat(u32),
-}
 
 // ---- acceptance
 
@@ -28,22 +20,14 @@ pub enum Acceptance {
 fn fields_ok(state: u8, n: u16, base: u16, source: u8, revision: u16) -> bool
     ensures { result ≡ fields_ok state n base source revision }
 {
-    if state == 0 {
-        return (n == 0) & ((base == 0) & ((source == 0) & (revision == 0)));
+    match state {
+        0 => n == 0 && base == 0 && source == 0 && revision == 0,
+        1 => 1 <= base && source == 0 && revision == 0,
+        2 => base == 0 && source == 0 && revision == 0,
+        3 => n == 0 && 1 <= base && source == 0 && revision == 0,
+        4 => base == 0 && source <= 31 && 1 <= revision,
+        _ => false,
     }
-    if state == 1 {
-        return (1 <= base) & ((source == 0) & (revision == 0));
-    }
-    if state == 2 {
-        return (base == 0) & ((source == 0) & (revision == 0));
-    }
-    if state == 3 {
-        return (n == 0) & ((1 <= base) & ((source == 0) & (revision == 0)));
-    }
-    if state == 4 {
-        return (base == 0) & ((source <= 31) & (1 <= revision));
-    }
-    false
 }
 
 // Whether a block whose first byte is 5 has the shape of an entry's.
@@ -52,36 +36,20 @@ fn entry_shape(s: &[u8]) -> bool
     ensures { result ≡ shaped_block s.now }
 {
     let n = block::get16(s, 2);
-    if 480 < n {
-        return false;
-    }
-    if s[7] != 0 {
-        return false;
-    }
-    if !block::is_zero(&s[10..16]) {
-        return false;
-    }
-    let end = 16 + n as usize;
-    if !block::is_zero(&s[end..508]) {
-        return false;
-    }
-    let base = block::get16(s, 4);
-    let revision = block::get16(s, 8);
-    fields_ok(s[1], n, base, s[6], revision)
+    n <= 480
+        && s[7] == 0
+        && block::is_zero(&s[10..16])
+        && block::is_zero(&s[16 + usize::from(n)..508])
+        && fields_ok(s[1], n, block::get16(s, 4), s[6], block::get16(s, 8))
 }
 
 // Whether a block passes as an entry's.
+#[tactic(auto, unfolding(crate::specs::Shape::ok_block))]
 fn entry_ok(s: &[u8]) -> bool
     requires { length s.now ≡ 512 }
     ensures { result ≡ ok_block 5 s.now }
 {
-    if !block::check(s) {
-        return false;
-    }
-    if s[0] != 5 {
-        return false;
-    }
-    entry_shape(s)
+    block::check(s) && s[0] == 5 && entry_shape(s)
 }
 
 // Whether a block whose first byte is 4 has the shape of the seat's.
@@ -89,27 +57,16 @@ fn seat_shape(s: &[u8]) -> bool
     requires { (length s.now ≡ 512) × (get_or s.now 0 0 ≡ 4) }
     ensures { result ≡ shaped_block s.now }
 {
-    if s[1] < 1 {
-        return false;
-    }
-    if 4 < s[1] {
-        return false;
-    }
-    block::is_zero(&s[2..508])
+    (1..=4).contains(&s[1]) && block::is_zero(&s[2..508])
 }
 
 // Whether a block passes as the seat's.
+#[tactic(auto, unfolding(crate::specs::Shape::ok_block))]
 fn seat_ok(s: &[u8]) -> bool
     requires { length s.now ≡ 512 }
     ensures { result ≡ ok_block 4 s.now }
 {
-    if !block::check(s) {
-        return false;
-    }
-    if s[0] != 4 {
-        return false;
-    }
-    seat_shape(s)
+    block::check(s) && s[0] == 4 && seat_shape(s)
 }
 
 // Whether the 32 blocks after the seat's pass.
@@ -117,64 +74,48 @@ fn entries_ok(copy: &[u8]) -> bool
     requires { length copy.now ≡ 16896 }
     ensures { result ≡ all (ok_block 5) (parts 32 (drop 512 copy.now)) }
 {
-    let mut j: usize = 1;
-    while j < 33 {
-        let at = 512 * j;
-        let end = at + 512;
-        if !entry_ok(&copy[at..end]) {
-            return false;
-        }
-        j += 1;
-    }
-    true
+    copy[512..].chunks_exact(512).all(entry_ok)
 }
 
 // The seat of a working copy, or the refusal.
-pub fn accept(copy: &[u8]) -> Acceptance
+pub fn accept(copy: &[u8]) -> Result<u32, Refusal>
     ensures { result ≡ accept_of copy.now }
 {
     if copy.len() != 16896 {
-        return Acceptance::Refused(Refusal::CopyLength);
+        return Err(Refusal::CopyLength);
     }
-    if !seat_ok(&copy[0..512]) {
-        return Acceptance::Refused(Refusal::CopyLayout);
+    if !seat_ok(&copy[..512]) || !entries_ok(copy) {
+        return Err(Refusal::CopyLayout);
     }
-    if !entries_ok(copy) {
-        return Acceptance::Refused(Refusal::CopyLayout);
-    }
-    Acceptance::Seat(copy[1] as u32)
+    Ok(u32::from(copy[1]))
 }
 
 // ---- entries out
 
+// The state with this number.
 fn state_in(state: u8, base: u32, sheet: u32, revision: u32) -> State
     ensures { result ≡ state_in state base sheet revision }
 {
-    if state == 0 {
-        return State::Empty;
+    match state {
+        0 => State::Empty,
+        1 => State::Normal(base),
+        2 => State::Added,
+        3 => State::Deleted(base),
+        _ => State::Copied(Source { sheet, revision }),
     }
-    if state == 1 {
-        return State::Normal(base);
-    }
-    if state == 2 {
-        return State::Added;
-    }
-    if state == 3 {
-        return State::Deleted(base);
-    }
-    State::Copied(Source { sheet, revision })
 }
 
 // The entry that a block states.
 fn read_entry(s: &[u8]) -> Entry
     ensures { result ≡ read_entry s.now }
 {
-    let len = block::get16(s, 2) as usize;
-    let base = block::get16(s, 4) as u32;
-    let sheet = block::byte(s, 6) as u32;
-    let revision = block::get16(s, 8) as u32;
-    let state = state_in(block::byte(s, 1), base, sheet, revision);
-    Entry { state, len }
+    let base = u32::from(block::get16(s, 4));
+    let sheet = u32::from(block::byte(s, 6));
+    let revision = u32::from(block::get16(s, 8));
+    Entry {
+        state: state_in(block::byte(s, 1), base, sheet, revision),
+        len: usize::from(block::get16(s, 2)),
+    }
 }
 
 // The entry of sheet i.
@@ -183,8 +124,7 @@ pub fn entry_at(copy: &[u8], i: usize) -> Entry
     ensures { Reading copy.now i result }
 {
     let at = 512 * (i + 1);
-    let end = at + 512;
-    read_entry(&copy[at..end])
+    read_entry(&copy[at..at + 512])
 }
 
 // ---- entries in
@@ -194,17 +134,20 @@ fn head_bytes(state: u8, len: usize, base: u32, source: u32, revision: u32) -> [
     requires { (len < 65536) × (base < 65536) × (source < 256) × (revision < 65536) }
     ensures { result ≡ head_bytes state len base source revision }
 {
+    let [n0, n1] = (len as u16).to_le_bytes();
+    let [b0, b1] = (base as u16).to_le_bytes();
+    let [r0, r1] = (revision as u16).to_le_bytes();
     [
         5,
         state,
-        (len % 256) as u8,
-        (len / 256) as u8,
-        (base % 256) as u8,
-        (base / 256) as u8,
+        n0,
+        n1,
+        b0,
+        b1,
         source as u8,
         0,
-        (revision % 256) as u8,
-        (revision / 256) as u8,
+        r0,
+        r1,
         0,
         0,
         0,
@@ -219,14 +162,12 @@ fn head_of(e: Entry) -> [u8; 16]
     requires { Small e.state e.len }
     ensures { result ≡ head_of e.state e.len }
 {
-    let len = e.len;
-    let state = e.state;
-    match state {
-        State::Empty => head_bytes(0, len, 0, 0, 0),
-        State::Normal(base) => head_bytes(1, len, base, 0, 0),
-        State::Added => head_bytes(2, len, 0, 0, 0),
-        State::Deleted(base) => head_bytes(3, len, base, 0, 0),
-        State::Copied(s) => head_bytes(4, len, 0, s.sheet, s.revision),
+    match e.state {
+        State::Empty => head_bytes(0, e.len, 0, 0, 0),
+        State::Normal(base) => head_bytes(1, e.len, base, 0, 0),
+        State::Added => head_bytes(2, e.len, 0, 0, 0),
+        State::Deleted(base) => head_bytes(3, e.len, base, 0, 0),
+        State::Copied(s) => head_bytes(4, e.len, 0, s.sheet, s.revision),
     }
 }
 
@@ -257,8 +198,7 @@ pub fn put_entry(copy: &mut [u8], i: usize, e: Entry, bytes: &[u8])
     ensures { copy.new ≡ copy_bytes (seat_of copy.old) (set (entries_of copy.old) i (entry_of e bytes.now)) }
 {
     let at = 512 * (i + 1);
-    let end = at + 512;
-    put_block(&mut copy[at..end], e, bytes);
+    put_block(&mut copy[at..at + 512], e, bytes);
 }
 
 // The entry e with the bytes that stand at sheet i already.
@@ -267,20 +207,7 @@ pub fn set_entry(copy: &mut [u8], i: usize, e: Entry)
     ensures { copy.new ≡ copy_bytes (seat_of copy.old) (set (entries_of copy.old) i (entry_of e (bytes_in e (block_at copy.old (i + 1))))) }
 {
     let at = 512 * (i + 1);
-    let end = at + 512;
-    set_block(&mut copy[at..end], e);
-}
-
-// n bytes from a on, to b on, which lie apart.
-fn copy_bytes(s: &mut [u8], a: usize, b: usize, n: usize)
-    requires { Apart a b n (length s.old) }
-    ensures { s.new ≡ paste s.old b (drop a s.old) n }
-{
-    let mut i: usize = 0;
-    while i < n {
-        s[b + i] = s[a + i];
-        i += 1;
-    }
+    set_block(&mut copy[at..at + 512], e);
 }
 
 // The entry e with the bytes of sheet `from`, at sheet `to`.
@@ -290,10 +217,8 @@ pub fn copy_entry(copy: &mut [u8], from: usize, to: usize, e: Entry)
 {
     let a = 512 * (from + 1) + 16;
     let b = 512 * (to + 1);
-    let end = b + 512;
-    let n = e.len;
-    copy_bytes(copy, a, b + 16, n);
-    set_block(&mut copy[b..end], e);
+    copy.copy_within(a..a + e.len, b + 16);
+    set_block(&mut copy[b..b + 512], e);
 }
 
 // ---- create
@@ -314,13 +239,8 @@ fn put_empty(s: &mut [u8])
     requires { length s.old ≡ 512 }
     ensures { s.new ≡ encode copy_fields (entry_block empty) }
 {
-    set_block(
-        s,
-        Entry {
-            state: State::Empty,
-            len: 0,
-        },
-    );
+    let state = State::Empty;
+    set_block(s, Entry { state, len: 0 });
 }
 
 // A fresh copy: its seat and 32 empty entries.
@@ -328,29 +248,23 @@ fn fresh(copy: &mut [u8], seat: u8)
     requires { length copy.old ≡ 16896 }
     ensures { copy.new ≡ fresh_copy seat }
 {
-    put_seat(&mut copy[0..512], seat);
-    let mut next: usize = 1;
-    while next < 33 {
+    put_seat(&mut copy[..512], seat);
+    for next in 1..33 {
         let at = 512 * next;
-        let end = at + 512;
-        put_empty(&mut copy[at..end]);
-        next += 1;
+        put_empty(&mut copy[at..at + 512]);
     }
 }
 
 // Create: a fresh copy, or the refusal.
-pub fn create_copy(copy: &mut [u8], seat: u32) -> Answer
+pub fn create_copy(copy: &mut [u8], seat: u32) -> Result<Answer, Refusal>
     ensures { created_as result copy.new ≡ create_copy copy.old seat }
 {
     if copy.len() != 16896 {
-        return Answer::Refused(Refusal::CopyLength);
+        return Err(Refusal::CopyLength);
     }
-    if seat < 1 {
-        return Answer::Refused(Refusal::Range);
-    }
-    if 4 < seat {
-        return Answer::Refused(Refusal::Range);
+    if !(1..=4).contains(&seat) {
+        return Err(Refusal::Range);
     }
     fresh(copy, seat as u8);
-    Answer::Done
+    Ok(Answer::Done)
 }

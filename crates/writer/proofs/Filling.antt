@@ -83,7 +83,7 @@ release_filled r seat stamp d d₁ d₂ d₃ ld e₁ e₂ e₃ =
     block-filled head head [] d d₁ d₁ d₂ d₃ 16 ld refl refl refl (omega arith) e₁ refl e₂ e₃ ∙ ap (λ (x : List ℕ). x ++ checks_of x) same
 
 -- a part that was lent and comes back is a run of stores
-part_written : (a k : ℕ) (s y : List ℕ) → k ≡ length y → a + length y ≤ length s → put_mid a k s y ≡ written a y s
+pub part_written : (a k : ℕ) (s y : List ℕ) → k ≡ length y → a + length y ≤ length s → put_mid a k s y ≡ written a y s
 part_written a k s y e h =
     ap (λ (x : List ℕ). take a s ++ (y ++ x)) (drop-drop k a s ∙ ap (λ (i : ℕ). drop (a + i) s) e) ∙ sym (written_mid a y s h)
 

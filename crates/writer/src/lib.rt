@@ -3,42 +3,57 @@
 
 ghost use Rattle.std.specs.Prelude.{◌*◌, ◌+◌, ◌<◌, ◌≤◌, ◌≡◌, length, take};
 ghost use Rattle.block.specs.Write.{written};
-ghost use Rattle.model.specs.Blocks.{commit, content, fields_of, lines_of, mark};
+ghost use Rattle.model.specs.Blocks.{code_of, commit, content, fields_of, lines_of, mark};
 ghost use Rattle.model.specs.Codec.{encode};
 ghost use Rattle.model.specs.Log.{released};
-ghost use Rattle.writer.specs.Blocks.{PutSome, Sourced, Tells, Writable, Wrote, commit_blocks, contents_by, head_of, line_bytes, lines_from, sheet_in, size_in};
+ghost use Rattle.writer.specs.Blocks.{PutContents, Sourced, Writable, Wrote, action_in, commit_blocks, contents_by, head_of, line_bytes, lines_in, sheet_in, size_in};
+
+// What a commit did to a sheet, by its number in a commit block.
+#[derive(Clone, Copy, Default)]
+pub enum Action {
+    #[default]
+    Add = 1,
+    Change = 2,
+    Delete = 3,
+    Copy = 4,
+}
+
+impl Action {
+    fn code(self) -> u8
+        ensures { result ≡ code_of (action_in self) }
+    {
+        self as u8
+    }
+}
 
 // A change as a commit block has it.
-#[derive(Clone, Copy)]
+#[derive(Clone, Copy, Default)]
 pub struct Line {
     pub sheet: u8,
-    pub action: u8,
+    pub action: Action,
     pub block: u16,
     pub source: u8,
     pub revision: u16,
 }
 
 // The first 16 bytes of a block.
+fn head_bytes(kind: u8, n: usize, r: usize, seat: u8, stamp: u32) -> [u8; 16]
+    requires { (n < 65536) × (r < 65536) }
+    ensures { result ≡ head_of kind n r seat stamp }
+{
+    let [n0, n1] = (n as u16).to_le_bytes();
+    let [r0, r1] = (r as u16).to_le_bytes();
+    let [t0, t1, t2, t3] = stamp.to_le_bytes();
+    [kind, 0, n0, n1, r0, r1, seat, 0, t0, t1, t2, t3, 0, 0, 0, 0]
+}
+
+// Writes the first 16 bytes of a block.
 fn put_head(d: &mut [u8], kind: u8, n: usize, r: usize, seat: u8, stamp: u32)
     requires { (length d.old ≡ 512) × ((n < 65536) × (r < 65536)) }
     ensures { d.new ≡ written 0 (head_of kind n r seat stamp) d.old }
 {
-    d[0] = kind;
-    d[1] = 0;
-    d[2] = (n % 256) as u8;
-    d[3] = (n / 256) as u8;
-    d[4] = (r % 256) as u8;
-    d[5] = (r / 256) as u8;
-    d[6] = seat;
-    d[7] = 0;
-    d[8] = (stamp % 256) as u8;
-    d[9] = (stamp / 256 % 256) as u8;
-    d[10] = (stamp / 256 / 256 % 256) as u8;
-    d[11] = (stamp / 256 / 256 / 256) as u8;
-    d[12] = 0;
-    d[13] = 0;
-    d[14] = 0;
-    d[15] = 0;
+    let head = head_bytes(kind, n, r, seat, stamp);
+    d[..16].copy_from_slice(&head);
 }
 
 // A whole content block.
@@ -49,8 +64,7 @@ fn fill_content(d: &mut [u8], revision: usize, bytes: &[u8])
     let n = bytes.len();
     put_head(d, 2, n, revision, 0, 0);
     block::put_bytes(d, 16, bytes);
-    let end = 16 + n;
-    block::clear(d, end, 508);
+    block::clear(d, 16 + n, 508);
     block::seal(d);
 }
 
@@ -60,47 +74,48 @@ fn put_content(store: &mut [u8], block: usize, revision: usize, bytes: &[u8])
     ensures { store.new ≡ written (512 * block) (encode fields_of (content revision bytes.now)) store.old }
 {
     let at = 512 * block;
-    let end = at + 512;
-    fill_content(&mut store[at..end], revision, bytes);
+    fill_content(&mut store[at..at + 512], revision, bytes);
 }
 
-// One line of a commit block.
+// The 8 bytes of a line.
+#[tactic(auto, unfolding(crate::specs::Blocks::line_bytes))]
+fn line_bytes(l: Line) -> [u8; 8]
+    ensures { result ≡ line_bytes l }
+{
+    let [b0, b1] = l.block.to_le_bytes();
+    let [r0, r1] = l.revision.to_le_bytes();
+    [l.sheet, l.action.code(), b0, b1, l.source, 0, r0, r1]
+}
+
+// Writes one line of a commit block.
+#[tactic(auto, using(crate::proofs::Filling::part_written), unfolding(crate::specs::Blocks::line_bytes))]
 fn put_line(d: &mut [u8], at: usize, l: Line)
     requires { at + 8 ≤ length d.old }
     ensures { d.new ≡ written at (line_bytes l) d.old }
 {
-    d[at] = l.sheet;
-    d[at + 1] = l.action;
-    d[at + 2] = (l.block % 256) as u8;
-    d[at + 3] = (l.block / 256) as u8;
-    d[at + 4] = l.source;
-    d[at + 5] = 0;
-    d[at + 6] = (l.revision % 256) as u8;
-    d[at + 7] = (l.revision / 256) as u8;
+    let line = line_bytes(l);
+    d[at..at + 8].copy_from_slice(&line);
 }
 
-// The first m lines, in a commit block.
-fn put_lines(d: &mut [u8], lines: [Line; 32], m: usize)
-    requires { (length d.old ≡ 512) × Tells lines m }
-    ensures { d.new ≡ written 16 (lines_of (lines_from lines 0 m)) d.old }
+// The lines, in a commit block.
+fn put_lines(d: &mut [u8], lines: &[Line])
+    requires { (length d.old ≡ 512) × (length lines.now ≤ 32) }
+    ensures { d.new ≡ written 16 (lines_of (lines_in lines.now)) d.old }
 {
-    let mut j = 0;
-    while j < m {
-        let l = lines[j];
-        put_line(&mut *d, 16 + 8 * j, l);
-        j += 1;
+    for (i, l) in lines.iter().enumerate() {
+        put_line(d, 16 + 8 * i, *l);
     }
 }
 
 // A whole commit block.
-fn fill_commit(d: &mut [u8], revision: usize, seat: u8, stamp: u32, lines: [Line; 32], m: usize)
-    requires { (length d.old ≡ 512) × ((revision < 65536) × Tells lines m) }
-    ensures { d.new ≡ encode fields_of (commit revision seat stamp (lines_from lines 0 m)) }
+fn fill_commit(d: &mut [u8], revision: usize, seat: u8, stamp: u32, lines: &[Line])
+    requires { (length d.old ≡ 512) × ((revision < 65536) × (length lines.now ≤ 32)) }
+    ensures { d.new ≡ encode fields_of (commit revision seat stamp (lines_in lines.now)) }
 {
-    put_head(d, 3, m, revision, seat, stamp);
-    put_lines(d, lines, m);
-    let end = 16 + 8 * m;
-    block::clear(d, end, 508);
+    let n = lines.len();
+    put_head(d, 3, n, revision, seat, stamp);
+    put_lines(d, lines);
+    block::clear(d, 16 + 8 * n, 508);
     block::seal(d);
 }
 
@@ -111,15 +126,13 @@ fn put_commit_block(
     revision: usize,
     seat: u8,
     stamp: u32,
-    lines: [Line; 32],
-    m: usize,
+    lines: &[Line],
 )
-    requires { (512 * block + 512 ≤ length store.old) × ((revision < 65536) × Tells lines m) }
-    ensures { store.new ≡ written (512 * block) (encode fields_of (commit revision seat stamp (lines_from lines 0 m))) store.old }
+    requires { (512 * block + 512 ≤ length store.old) × ((revision < 65536) × (length lines.now ≤ 32)) }
+    ensures { store.new ≡ written (512 * block) (encode fields_of (commit revision seat stamp (lines_in lines.now))) store.old }
 {
     let at = 512 * block;
-    let end = at + 512;
-    fill_commit(&mut store[at..end], revision, seat, stamp, lines, m);
+    fill_commit(&mut store[at..at + 512], revision, seat, stamp, lines);
 }
 
 // A whole release block.
@@ -138,20 +151,18 @@ pub fn put_release(store: &mut [u8], block: usize, revision: usize, seat: u8, st
     ensures { store.new ≡ written (512 * block) (encode fields_of (mark (released revision seat stamp))) store.old }
 {
     let at = 512 * block;
-    let end = at + 512;
-    fill_release(&mut store[at..end], revision, seat, stamp);
+    fill_release(&mut store[at..at + 512], revision, seat, stamp);
 }
 
 // Writes the content block of a sheet whose bytes stand in its entry of the working copy.
-fn put_entry<'a>(store: &mut [u8], block: usize, revision: usize, copy: &'a [u8], sheet: usize)
+fn put_entry(store: &mut [u8], block: usize, revision: usize, copy: &[u8], sheet: usize)
     requires { (512 * block + 512 ≤ length store.old) × ((revision < 65536) × ((length copy.now ≡ 16896) × ((sheet < 32) × (size_in copy.now sheet ≤ 480)))) }
     ensures { store.new ≡ written (512 * block) (encode fields_of (content revision (sheet_in copy.now sheet))) store.old }
 {
     let at = 512 * (sheet + 1);
-    let n = block::get16(copy, at + 2) as usize;
+    let n = usize::from(block::get16(copy, at + 2));
     let start = at + 16;
-    let end = start + n;
-    put_content(store, block, revision, &copy[start..end]);
+    put_content(store, block, revision, &copy[start..start + n]);
 }
 
 // Where a writing stood when it stopped: the next block, and how many block writes were left to it.
@@ -162,60 +173,51 @@ struct Cut {
 }
 
 // Writes the content blocks of a commit, from block `used` on, a block for each line that points to the next one; n at most.
-fn put_contents<'a>(
+fn put_contents(
     store: &mut [u8],
     n: usize,
     used: usize,
     revision: usize,
-    lines: [Line; 32],
-    m: usize,
-    copy: &'a [u8],
+    lines: &[Line],
+    copy: &[u8],
 ) -> Cut
-    requires { (revision < 65536) × (Sourced copy.now lines m × (512 * (used + length (contents_by (sheet_in copy.now) used (lines_from lines 0 m))) ≤ length store.old)) }
-    ensures { PutSome store.old store.new n used revision (contents_by (sheet_in copy.now) used (lines_from lines 0 m)) result.next result.left }
+    requires { (revision < 65536) × (Sourced copy.now lines.now × (512 * (used + length (contents_by (sheet_in copy.now) used (lines_in lines.now))) ≤ length store.old)) }
+    ensures { PutContents store.old store.new n used revision (take n (contents_by (sheet_in copy.now) used (lines_in lines.now))) result.next result.left }
 {
     let mut next = used;
     let mut left = n;
-    let mut j = 0;
-    while j < m {
-        let l = lines[j];
-        if l.block as usize != next {
-            j += 1;
-            continue;
+    for l in lines {
+        if usize::from(l.block) == next {
+            if left == 0 {
+                return Cut { next, left };
+            }
+            put_entry(store, next, revision, copy, usize::from(l.sheet));
+            next += 1;
+            left -= 1;
         }
-        if left == 0 {
-            return Cut { next, left };
-        }
-        put_entry(&mut *store, next, revision, copy, l.sheet as usize);
-        next += 1;
-        left -= 1;
-        j += 1;
     }
     Cut { next, left }
 }
 
 // Writes a commit from block `used` on: its content blocks in the order of its lines, and then its commit block. It stops after n block writes. The block that
 // follows the last one written.
-pub fn write_some<'a>(
+pub fn write_some(
     store: &mut [u8],
     n: usize,
     used: usize,
     revision: usize,
     seat: u8,
     stamp: u32,
-    lines: [Line; 32],
-    m: usize,
-    copy: &'a [u8],
+    lines: &[Line],
+    copy: &[u8],
 ) -> usize
-    requires { Writable store.old used revision lines m copy.now }
-    ensures { Wrote store.old store.new used result (take n (commit_blocks (sheet_in copy.now) used revision seat stamp (lines_from lines 0 m))) }
+    requires { Writable store.old used revision lines.now copy.now }
+    ensures { Wrote store.old store.new used result (take n (commit_blocks (sheet_in copy.now) used revision seat stamp (lines_in lines.now))) }
 {
-    let cut = put_contents(store, n, used, revision, lines, m, copy);
-    let next = cut.next;
-    let left = cut.left;
+    let Cut { next, left } = put_contents(store, n, used, revision, lines, copy);
     if left == 0 {
         return next;
     }
-    put_commit_block(store, next, revision, seat, stamp, lines, m);
+    put_commit_block(store, next, revision, seat, stamp, lines);
     next + 1
 }

@@ -1,0 +1,24 @@
+-- `ok`, HEX and the end of the line.
+-- Assumes nothing.
+use Rattle.std.proofs.Common.{◌+◌, ◌∙◌, ℕ, List, [], ◌∷◌, ap, arith, refl, set}
+use Rattle.text.proofs.Laws.{length_hex}
+use Rattle.text.specs.Text.{hex_text}
+use Rattle.program.proofs.Printing.{said}
+use Rattle.program.proofs.say_bytes.Goals as goal
+
+pub overflow_add-p-2 : goal.overflow_add-p-2
+overflow_add-p-2 c = omega (arith, c.put_hex-k.ensures.value, length_hex c.args.s.now)
+
+pub overflow_add-result : goal.overflow_add-result
+overflow_add-result c = omega (arith, c.put_hex-k.ensures.value, length_hex c.args.s.now)
+
+pub returns-clause-out_after : goal.returns-clause-out_after
+returns-clause-out_after c =
+    let a = c.args in
+    let d = c.put_hex-k in
+    let w : List ℕ = 111 ∷ 107 ∷ 32 ∷ [] in
+    said w (hex_text a.s.now) a.out.now c.put_bytes.new.s d.new.out c.put.new.s 10 a.at (a.at + 3) refl c.put_bytes.ensures d.ensures.out_after
+    (c.put.ensures ∙ ap (λ k. set d.new.out (a.at + 3 + k) 10) d.ensures.value)
+
+pub returns-clause-upper_bound : goal.returns-clause-upper_bound
+returns-clause-upper_bound c = omega (arith, c.put_hex-k.ensures.value, length_hex c.args.s.now)
