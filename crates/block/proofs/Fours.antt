@@ -101,20 +101,35 @@ module _ (e d x y : ℕ) (adds : d ≡ x + 65_536 * y) (h : e % 65_536 + x < 65_
   high_more : (e + d) / 65_536 ≡ e / 65_536 + y
   high_more = rw adds (omega arith)
 
-pair_grows : (e d x y i : ℕ) → d ≡ x + 65_536 * y → x < 256 → y < 256 → i < 127 → Pair e i → Pair (e + d) (i + 1)
+pub pair_grows : (e d x y i : ℕ) → d ≡ x + 65_536 * y → x < 256 → y < 256 → i < 127 → Pair e i → (e + d < 4_294_967_296) × Pair (e + d) (i + 1)
 pair_grows e d x y i adds hx hy few p =
     let room : e % 65_536 + x < 65_536 = omega (arith, p.0) in
-    (omega (arith, p.0, low_more e d x y adds room), omega (arith, p.1, high_more e d x y adds room))
+    (omega (arith, p.0, p.1), (omega (arith, p.0, low_more e d x y adds room), omega (arith, p.1, high_more e d x y adds room)))
 
--- One turn of the loop over the steps. After i of n steps `even` and `odd` have two of the four sums each, and w all bytes; y, z and t are what the next step adds.
-pub fours-turn : (l : List ℕ) (n i even odd w : ℕ) {y z t : ℕ} → (y ≡ even_at l (4 * i)) × (z ≡ odd_at l (4 * i)) × (t ≡ all_at l (4 * i)) × (t ≤ 1020)
+-- One turn of the loop over the steps: what is left from byte i on. `even` and `odd` have two of the four sums each, and y, z and t are what the step adds.
+pub fours-turn : (l : List ℕ) (n i even odd w : ℕ) {y z t : ℕ} → y ≡ even_at l i → z ≡ odd_at l i → t ≡ all_at l i → even % 65_536 + get_or l i 0 < 65_536
+    → odd % 65_536 + get_or l (i + 1) 0 < 65_536 → 0 < n
+    → fours (even % 65_536) (odd % 65_536) (even / 65_536) (odd / 65_536) w n (drop i l)
+    ≡ fours ((even + y) % 65_536) ((odd + z) % 65_536) ((even + y) / 65_536) ((odd + z) / 65_536) (w + (n - 1) * t) (n - 1) (drop (i + 4) l)
+fours-turn l n i even odd w {y} {z} {t} ey ez et h g more =
+    fours-next l n i (even % 65_536) (odd % 65_536) (even / 65_536) (odd / 65_536) w more
+    ∙ cc (
+      low_more even y (get_or l i 0) (get_or l (i + 2) 0) ey h,
+      high_more even y (get_or l i 0) (get_or l (i + 2) 0) ey h,
+      low_more odd z (get_or l (i + 1) 0) (get_or l (i + 3) 0) ez g,
+      high_more odd z (get_or l (i + 1) 0) (get_or l (i + 3) 0) ez g,
+      et,
+    )
+
+-- What a turn of the loop keeps. After i of n steps `even` and `odd` have two of the four sums each, and w all bytes; y, z and t are what the next step adds.
+pub fours-kept : (l : List ℕ) (n i even odd w : ℕ) {y z t : ℕ} → (y ≡ even_at l (4 * i)) × (z ≡ odd_at l (4 * i)) × (t ≡ all_at l (4 * i)) × (t ≤ 1020)
     → ((k : ℕ) → get_or l k 0 < 256) → i < n → n ≤ 127 → Pair even i → Pair odd i → w ≤ 128_520 * i
     → Pair (even + y) (i + 1)
     × Pair (odd + z) (i + 1)
     × (w + (n - 1 - i) * t ≤ 128_520 * (i + 1))
     × (fours (even % 65_536) (odd % 65_536) (even / 65_536) (odd / 65_536) w (n - i) (drop (4 * i) l)
     ≡ fours ((even + y) % 65_536) ((odd + z) % 65_536) ((even + y) / 65_536) ((odd + z) / 65_536) (w + (n - 1 - i) * t) (n - (i + 1)) (drop (4 * (i + 1)) l))
-fours-turn l n i even odd w {y} {z} {t} r bytes more few p q hw =
+fours-kept l n i even odd w {y} {z} {t} r bytes more few p q hw =
     let k = 4 * i in
     let x0 = get_or l k 0 in
     let x1 = get_or l (k + 1) 0 in
@@ -126,9 +141,8 @@ fours-turn l n i even odd w {y} {z} {t} r bytes more few p q hw =
     let one : n - i - 1 ≡ n - (i + 1) = omega arith in
     let two : n - 1 - i ≡ n - (i + 1) = omega arith in
     let next : 4 * i + 4 ≡ 4 * (i + 1) = omega arith in (
-      pair_grows even y x0 x2 i r.0 (bytes k) (bytes (k + 2)) (omega arith) p,
-      pair_grows odd z x1 x3 i r.1 (bytes (k + 1)) (bytes (k + 3)) (omega arith) q,
+      (pair_grows even y x0 x2 i r.0 (bytes k) (bytes (k + 2)) (omega arith) p).1,
+      (pair_grows odd z x1 x3 i r.1 (bytes (k + 1)) (bytes (k + 3)) (omega arith) q).1,
       omega arith,
-      fours-next l (n - i) k (even % 65_536) (odd % 65_536) (even / 65_536) (odd / 65_536) w (omega arith)
-          ∙ cc (low_more even y x0 x2 r.0 h, high_more even y x0 x2 r.0 h, low_more odd z x1 x3 r.1 g, high_more odd z x1 x3 r.1 g, r.2, one, two, next),
+      fours-turn l (n - i) k even odd w r.0 r.1 r.2 h g (omega arith) ∙ cc (one, two, next),
     )

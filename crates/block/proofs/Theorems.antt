@@ -15,7 +15,7 @@ use Rattle.block.proofs.Sealing.{says-sealed, sealed-size, seal_is, length_seal}
 use Rattle.block.proofs.Parts.{block_size, seal_at_is, seal_at-not, put-leaves}
 use Rattle.block.proofs.Damage.{same_checks}
 
-sums-small : (a b : ℕ) (l : List ℕ) → a < 65_521 → b < 65_521 → ((sums a b l).0 < 65_521) × ((sums a b l).1 < 65_521)
+pub sums-small : (a b : ℕ) (l : List ℕ) → a < 65_521 → b < 65_521 → ((sums a b l).0 < 65_521) × ((sums a b l).1 < 65_521)
 sums-small a b [] h g = (h, g)
 sums-small a b (x ∷ l) h g = sums-small ((a + x) % 65_521) ((b + (a + x) % 65_521) % 65_521) l (omega arith) (omega arith)
 

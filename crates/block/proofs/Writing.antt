@@ -8,8 +8,8 @@ use native.Mathlib.Omega.{arith}
 use native.Mathlib.Numerals.{add-one}
 use native.Mathlib.Nat.{add-zero}
 use borrow.Rule.Slice.PartMut.{put_mid}
-use lib.ListN.{length, set, take, drop, replicate, length-append, length-replicate, length-set, length-take, drop_of_length-le, take-append-drop}
-use lib.Seq.{sets, sets-eq, set_out, take_at, drop_at, drop-drop}
+use lib.ListN.{length, set, take, drop, get_or, replicate, length-append, length-replicate, length-set, length-take, drop_of_length-le, take-append-drop}
+use lib.Seq.{sets, sets-eq, set_out, take_at, drop_at, drop-cons, drop-drop}
 use Rattle.std.specs.Int.{w16, w32, to_le_bytes}
 use Rattle.std.proofs.lemmas.List.{take-replicate}
 use Rattle.block.specs.Field.{with_two, with_four}
@@ -77,6 +77,26 @@ module _ {A : Type 0} where
             | inl g ↦ written_past (at + length (take n vs)) (drop n vs) (written at (take n vs) l) (omega (arith, length-written at (take n vs) l))
             | inr g ↦ rw (drop_of_length-le vs {i = n} g) (written_none (at + length (take n vs)) (written at (take n vs) l))
           ]
+
+-- a loop that writes one byte a turn: what is left to write from byte i on
+module _ (at i : ℕ) (vs l : List ℕ) where
+  pub write_step : i < length vs → written (at + (i + 1)) (drop (i + 1) vs) (set l (at + i) (get_or vs i 0)) ≡ written (at + i) (drop i vs) l
+  write_step h =
+      let f : at + i + 1 ≡ at + (i + 1) = omega arith in
+      sym (ap (λ (x : List ℕ). written (at + i) x l) (drop-cons vs i 0 h)
+      ∙ written_one (at + i) (get_or vs i 0) (drop (suc i) vs) l
+      ∙ ap (λ (k : ℕ). written k (drop (suc i) vs) (set l (at + i) (get_or vs i 0))) f
+      ∙ ap (λ (k : ℕ). written (at + (i + 1)) (drop k vs) (set l (at + i) (get_or vs i 0))) (sym (add-one i)))
+
+  pub write_done : min (length vs) (length l - at) ≤ i → written (at + i) (drop i vs) l ≡ l
+  write_done h =
+      elim (lt_or_ge i (length vs)) [
+        | inl g ↦ written_past (at + i) (drop i vs) l (omega arith)
+        | inr g ↦ rw (drop_of_length-le vs {i = i} g) (written_none (at + i) l)
+      ]
+
+pub write_all : (at : ℕ) (vs l : List ℕ) → written (at + 0) (drop 0 vs) l ≡ written at vs l
+write_all at vs l = rw (add-zero at)
 
 -- zeros up to before `to`, or to the end
 module _ (from to : ℕ) (l : List ℕ) where

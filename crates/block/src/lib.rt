@@ -62,7 +62,9 @@ pub fn put_bytes(s: &mut [u8], at: usize, b: &[u8])
 {
     if at < s.len() {
         let n = b.len().min(s.len() - at);
-        s[at..at + n].copy_from_slice(&b[..n]);
+        for j in 0..n {
+            s[at + j] = b[j];
+        }
     }
 }
 

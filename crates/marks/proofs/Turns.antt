@@ -73,6 +73,10 @@ markless s n L f = sym (ap once (sym (laid_revisions s n L) ∙ no_revisions (bl
 
 -- ---- is a revision one of them?
 
+pub among-zero : (bs : List Block) → among 0 (revisions_in bs) ≡ false
+among-zero [] = refl
+among-zero (b ∷ bs) = cond-any (λ (xs : List ℕ). among 0 xs ≡ false) (eqb (revision_of b) 0) (λ t. among-zero bs) (λ t. rw t (among-zero bs))
+
 pub among_any : (r : ℕ) (xs : List ℕ) → list_any (λ x. eqb x r) xs ≡ among r xs
 among_any r [] = refl
 among_any r (x ∷ xs) = rw (among_any r xs) (one (eqb x r) (among r xs))

@@ -34,7 +34,9 @@ fn blocks(store: &[u8], n: usize) -> ChunksExact<'_, u8>
     store[..n * 512].chunks_exact(512)
 }
 
-// Whether no revision is released twice in the n blocks. A revision that was seen is marked.
+// Whether no revision is released twice in the n blocks. A revision that was seen is marked. It is called, not copied into its caller, so that a store without releases does not
+// pay for the marks.
+#[inline(never)]
 pub fn together(store: &[u8], n: usize) -> bool
     requires { Laid store.now n }
     ensures { result ≡ marks_ok (marks (log_all (blocks_of n store.now))) }
@@ -55,7 +57,7 @@ pub fn is_released(store: &[u8], n: usize, r: u32) -> bool
     requires { Laid store.now n }
     ensures { result ≡ among r (releases (marks (log_all (blocks_of n store.now)))) }
 {
-    blocks(store, n).filter_map(released_at).any(|x| x == r)
+    r != 0 && blocks(store, n).filter_map(released_at).any(|x| x == r)
 }
 
 // The greatest revision up to r that is released in the n blocks, 0 if there is none.

@@ -223,7 +223,8 @@ fn pass(store: &[u8], n: usize, tab: &mut [u16]) -> Result<Passed, Refusal>
     })
 }
 
-// The pass with a table of N block numbers.
+// The pass with a table of N block numbers. It is called, not copied into its caller, so that a small store does not pay for a large store's table.
+#[inline(never)]
 fn pass_with<const N: usize>(store: &[u8], n: usize) -> Result<Passed, Refusal>
     requires { (n * 512 ≤ length store.now) × (1 ≤ n) × (32 * n ≤ N) × (N ≤ 131072) }
     ensures { PassedAs n store.now result }

@@ -1,12 +1,22 @@
--- What fits is written, and nothing past the end.
-use Rattle.std.proofs.Common.{sym, arith}
-use Rattle.block.proofs.Writing.{written_fits, written_past}
+-- What fits is written a byte a turn, and nothing past the end.
+use Rattle.std.proofs.Common.{◌+◌, ◌∙◌, refl, sym, arith, get_or, length-set}
+use Rattle.block.proofs.Writing.{write_all, write_done, write_step, written_past}
 use Rattle.block.proofs.put_bytes.Goals as goal
 
-pub returns-then-at-s : goal.returns-then-at-s
-returns-then-at-s c =
+pub loop-j-init : goal.loop-j-init
+loop-j-init c = record { long = refl; left = write_all c.args.at c.args.b.now c.args.s.now }
+
+pub loop-j-preserved : goal.loop-j-preserved
+loop-j-preserved c =
+    let l = c.loop-j in
     let a = c.args in
-    rw c.copy_from_slice.ensures.after (written_fits a.at c.min-n.result a.b.now a.s.now (omega arith) (omega arith) (omega arith))
+    record {
+      long = length-set l.s (a.at + l.j) (get_or a.b.now l.j 0) ∙ l.invariant.long;
+      left = write_step a.at l.j a.b.now l.s (omega arith) ∙ l.invariant.left;
+    }
+
+pub returns-after-loop-j : goal.returns-after-loop-j
+returns-after-loop-j c = sym (write_done c.args.at c.loop-j.j c.args.b.now c.loop-j.s (omega arith)) ∙ c.loop-j.invariant.left
 
 pub returns-else-at-s : goal.returns-else-at-s
 returns-else-at-s c = sym (written_past c.args.at c.args.b.now c.args.s.now c.if-at-s.false)
