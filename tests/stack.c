@@ -1,4 +1,4 @@
-/* How much stack a call takes, by a thread whose stack is painted before: at most the 272 KiB that include/sheetstore.h names, and at most 16 KiB on a store with up to 64
+/* How much stack a call that opens a store takes, by a thread whose stack is painted before: at most the 272 KiB that include/sheetstore.h names, and at most 16 KiB on a store with up to 64
  * blocks before the zero ones, since a small store does not pay for a large store's table (docs/DECISIONS.md, 32). Exits 1 with what a call took if that is not so. */
 #define _GNU_SOURCE
 #include "sheetstore.h"
@@ -28,8 +28,12 @@ static uint32_t last, refusal;
     X(add, sheets_add(OF_BOTH, 5, bytes, sizeof bytes)) \
     X(revert, sheets_revert(OF_BOTH, UINT32_MAX)) \
     X(update, sheets_update(OF_BOTH, UINT32_MAX, last)) \
-    X(edit_again, sheets_edit(OF_BOTH, 3, bytes, 7)) \
+    X(edit_to_commit, sheets_edit(OF_BOTH, 3, bytes, 7)) \
+    X(commit_cut, sheets_commit_cut(OF_BOTH, 7, UINT32_MAX, 1)) \
+    X(clear_cut, sheets_clear_cut(OF_STORE, 1)) \
     X(commit, sheets_commit(OF_BOTH, 7, UINT32_MAX)) \
+    X(edit_in_turn, sheets_edit(OF_BOTH, 3, bytes, 8)) \
+    X(commit_in_turn, sheets_commit_in_turn(OF_BOTH, (sheets_turn){1, 0, 0, 0}, 7, UINT32_MAX)) \
     X(release, sheets_release(OF_STORE, last, 1, 7)) \
     X(clear, sheets_clear(OF_STORE)) \
     X(replay, sheets_replay(script, sizeof script, OF_STORE, copies, sizeof copies, answers, sizeof answers))
